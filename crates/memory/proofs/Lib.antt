@@ -1,0 +1,6 @@
+-- The laws of `memory`, in the order to read them.
+pub mod Places
+pub mod Outcomes
+pub mod OwnBytes
+pub mod StoreLaws
+pub mod Frames

@@ -1,0 +1,79 @@
+-- A store changes its own bytes alone, and a load there gives back what was stored.
+use mathlib.Core.Path.{_≡_, refl, ap, sym, subst, _∙_}
+use mathlib.Core.List.{List}
+use Prim.Native.Nat.{ℕ, suc, _+_, _-_, _%_, _^_, _≤_, _<_}
+use native.Mathlib.Omega.{arith}
+use lib.ListN.{length, getD}
+use Rattle.endian.specs.BigEndian.{readAt, writeAt}
+use Rattle.endian.proofs.Widths.{length-write, write-other, read-write}
+use Rattle.memory.specs.Map.{Memory, memory, locate, placeOf, placeIn, byteIn, byteAt, romBase, beltBase}
+use Rattle.memory.specs.Access.{readIn, loadOf, writeIn, storedOf}
+use Rattle.memory.specs.declared.Place.{Place}
+use Rattle.memory.specs.declared.Place.the-variants.{Ram, Rom, Belt, Nothing}
+use Rattle.memory.specs.declared.Loaded.the-variants as loaded
+use Rattle.memory.proofs.Places.{Lies, lies, place-lies}
+use Rattle.memory.proofs.Outcomes.{load-at, stored-at}
+use Rattle.memory.proofs.OwnBytes.{SameLengths, same-locate, same-place}
+
+module _ (w : ℕ) (m : Memory) (a v : ℕ) where
+  -- the lengths stay
+  write-lengths : (p : Place) → SameLengths (writeIn w m p v) m
+  write-lengths (Ram at) = (length-write w (m .ram) at v, refl, refl)
+  write-lengths (Rom at) = (refl, refl, refl)
+  write-lengths (Belt at) = (refl, refl, length-write w (m .belt) at v)
+  write-lengths Nothing = (refl, refl, refl)
+
+  pub store-lengths : SameLengths (storedOf w m a v) m
+  unfolding storedOf
+  store-lengths = write-lengths (placeIn w m a)
+
+  -- ROM stays
+  write-rom : (p : Place) → writeIn w m p v .rom ≡ m .rom
+  write-rom (Ram at) = refl
+  write-rom (Rom at) = refl
+  write-rom (Belt at) = refl
+  write-rom Nothing = refl
+
+  pub store-rom : storedOf w m a v .rom ≡ m .rom
+  unfolding storedOf
+  store-rom = write-rom (placeIn w m a)
+
+  -- a byte that is not among the w from the address stays
+  kept-in : (j : ℕ) → ((i : ℕ) → i < w → j ≡ a + i → ⊥) → (p q : Place)
+      → Lies w (length (m .ram)) (length (m .rom)) (length (m .belt)) a p
+      → Lies 1 (length (m .ram)) (length (m .rom)) (length (m .belt)) j q
+      → byteIn (writeIn w m p v) q ≡ byteIn m q
+  kept-in j other (Ram at) (Ram x) h k = write-other w (m .ram) at v x (λ i l e. other i l (omega arith))
+  kept-in j other (Ram at) (Rom x) h k = refl
+  kept-in j other (Ram at) (Belt x) h k = refl
+  kept-in j other (Ram at) Nothing h k = refl
+  kept-in j other (Rom at) q h k = refl
+  kept-in j other (Belt at) (Ram x) h k = refl
+  kept-in j other (Belt at) (Rom x) h k = refl
+  kept-in j other (Belt at) (Belt x) h k = write-other w (m .belt) at v x (λ i l e. other i l (omega arith))
+  kept-in j other (Belt at) Nothing h k = refl
+  kept-in j other Nothing q h k = refl
+
+  pub store-keeps : (j : ℕ) → ((i : ℕ) → i < w → j ≡ a + i → ⊥) → byteAt (storedOf w m a v) j ≡ byteAt m j
+  unfolding byteAt storedOf
+  store-keeps j other =
+      let r : ℕ = length (m .ram) in
+      let o : ℕ = length (m .rom) in
+      let b : ℕ = length (m .belt) in
+      ap (byteIn (writeIn w m (placeIn w m a) v)) (same-locate (storedOf w m a v) m store-lengths 1 j)
+      ∙ kept-in j other (placeIn w m a) (locate 1 r o b j) (place-lies w r o b a (placeIn w m a) refl) (lies 1 r o b j)
+
+  -- a load from where a store went gives its low w bytes
+  pub load-stored-ram : (at : ℕ) → placeIn w m a ≡ Ram at → loadOf w (storedOf w m a v) a ≡ loaded.Value (v % 256 ^ w)
+  load-stored-ram at e =
+      load-at w (storedOf w m a v) a (Ram at) (same-place (storedOf w m a v) m store-lengths w a ∙ e)
+      ∙ ap (λ (n : Memory). loaded.Value (readAt w (n .ram) at)) (stored-at w m a (Ram at) v e)
+      ∙ ap loaded.Value (read-write w (m .ram) at v
+      (place-lies w (length (m .ram)) (length (m .rom)) (length (m .belt)) a (Ram at) e .1))
+
+  pub load-stored-belt : (at : ℕ) → placeIn w m a ≡ Belt at → loadOf w (storedOf w m a v) a ≡ loaded.Value (v % 256 ^ w)
+  load-stored-belt at e =
+      load-at w (storedOf w m a v) a (Belt at) (same-place (storedOf w m a v) m store-lengths w a ∙ e)
+      ∙ ap (λ (n : Memory). loaded.Value (readAt w (n .belt) at)) (stored-at w m a (Belt at) v e)
+      ∙ ap loaded.Value (read-write w (m .belt) at v
+      (place-lies w (length (m .ram)) (length (m .rom)) (length (m .belt)) a (Belt at) e .1))

@@ -1,0 +1,50 @@
+-- Loads and stores of w bytes at a physical address (document 01, "One step" and "Closed by us"; manual, chapter 3, section 5).
+use mathlib.Core.List.{List}
+use Prim.Native.Nat.{ℕ}
+use Rattle.endian.specs.BigEndian.{readAt, writeAt}
+use Rattle.memory.specs.Map.{Memory, memory, placeIn}
+use Rattle.memory.specs.declared.Place.{Place}
+use Rattle.memory.specs.declared.Place.the-variants.{Ram, Rom, Belt, Nothing}
+use Rattle.memory.specs.declared.Loaded.{Loaded}
+use Rattle.memory.specs.declared.Loaded.the-variants as loaded
+use Rattle.memory.specs.declared.Stored.{Stored}
+use Rattle.memory.specs.declared.Stored.the-variants as stored
+
+abbrev pub readIn : ℕ → Memory → Place → Loaded
+readIn w m (Ram at) = loaded.Value (readAt w (m .ram) at)
+readIn w m (Rom at) = loaded.Value (readAt w (m .rom) at)
+readIn w m (Belt at) = loaded.Value (readAt w (m .belt) at)
+readIn w m Nothing = loaded.Timeout
+
+-- a load: the big-endian number at the place that answers
+unfoldable pub loadOf : ℕ → Memory → ℕ → Loaded
+loadOf w m address = readIn w m (placeIn w m address)
+
+abbrev pub completes : Place → Stored
+completes (Ram at) = stored.Done
+completes (Rom at) = stored.Done
+completes (Belt at) = stored.Done
+completes Nothing = stored.Timeout
+
+-- a store completes wherever something answers
+unfoldable pub storeAnswer : ℕ → Memory → ℕ → Stored
+storeAnswer w m address = completes (placeIn w m address)
+
+abbrev pub writeIn : ℕ → Memory → Place → ℕ → Memory
+writeIn w m (Ram at) v = memory (writeAt w (m .ram) at v) (m .rom) (m .belt)
+writeIn w m (Rom at) v = m
+writeIn w m (Belt at) v = memory (m .ram) (m .rom) (writeAt w (m .belt) at v)
+writeIn w m Nothing v = m
+
+-- the memory after a store: ROM never changes
+unfoldable pub storedOf : ℕ → Memory → ℕ → ℕ → Memory
+storedOf w m address v = writeIn w m (placeIn w m address) v
+
+-- the exception that an answer names: 16, or 32 for none
+abbrev pub loadedEid : Loaded → ℕ
+loadedEid (loaded.Value v) = 32
+loadedEid loaded.Timeout = 16
+
+abbrev pub storedEid : Stored → ℕ
+storedEid stored.Done = 32
+storedEid stored.Timeout = 16

@@ -1,0 +1,3 @@
+-- The definitions of `memory`, in the order to read them.
+pub mod Map
+pub mod Access

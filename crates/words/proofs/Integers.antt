@@ -1,0 +1,73 @@
+-- The signed reading of a word and the word of an integer (specs/Numbers) are two's complement: what each is, and that they are inverse.
+use mathlib.Core.Path.{_≡_, refl, ap, sym, _∙_}
+use mathlib.Core.Bool.{Bool, true, false}
+use Prim.Native.Nat.{ℕ, zero, suc, _+_, _*_, _-_, _/_, _%_, _^_, _≤_, _<_}
+use native.Mathlib.Omega.{arith}
+use lib.IntN.{ℤ, pos, negsuc, negℤ, natAbs, subℕ}
+use lib.Dec.{ltb}
+use borrow.Author.Tests.{lt-ltb, le-ltb}
+use Rattle.words.proofs.Cases.{below-or-not}
+use Rattle.words.specs.Numbers.{bit, signed, wordOf}
+use Rattle.words.specs.Computation.{difference}
+
+pub sub-pos : (a b : ℕ) → b ≤ a → subℕ a b ≡ pos (a - b)
+sub-pos a b h = simp (le-ltb a b h)
+
+pub sub-neg : (a b : ℕ) → a < b → subℕ a b ≡ negsuc (b - suc a)
+sub-neg a b h = simp (lt-ltb a b h)
+
+-- a word below 80000000 is itself
+pub signed-low : (n : ℕ) → n < 2 ^ 31 → signed 32 n ≡ pos n
+unfolding signed bit
+signed-low n h =
+    let low : n % 2147483648 - n / 2147483648 % 2 * 2147483648 ≡ n = omega arith in
+    sub-pos (n % 2147483648) (n / 2147483648 % 2 * 2147483648) (omega arith) ∙ ap pos low
+
+-- any other is its distance from 2 ^ 32, below 0
+pub signed-high : (n : ℕ) → 2 ^ 31 ≤ n → n < 2 ^ 32 → signed 32 n ≡ negsuc (4294967295 - n)
+unfolding signed bit
+signed-high n h k =
+    let high : n / 2147483648 % 2 * 2147483648 - suc (n % 2147483648) ≡ 4294967295 - n = omega arith in
+    sub-neg (n % 2147483648) (n / 2147483648 % 2 * 2147483648) (omega arith) ∙ ap negsuc high
+
+-- the word of an integer below 0 makes 0 with the integer's opposite
+pub word-negated : (n : ℕ) → n ≤ 2 ^ 32 → wordOf (negℤ (pos n)) ≡ difference 0 n
+unfolding wordOf difference
+word-negated zero h = refl
+word-negated (suc n) h = omega arith
+
+pub word-pos : (n : ℕ) → n < 2 ^ 32 → wordOf (pos n) ≡ n
+unfolding wordOf
+word-pos n h = omega arith
+
+pub word-negsuc : (n : ℕ) → n < 2 ^ 32 → wordOf (negsuc n) ≡ 4294967295 - n
+unfolding wordOf
+word-negsuc n h = omega arith
+
+pub word-lt : (z : ℤ) → wordOf z < 2 ^ 32
+unfolding wordOf
+word-lt (pos n) = omega arith
+word-lt (negsuc n) = omega arith
+
+-- by the sign of a word's signed reading
+pub by-sign {ℓ} : (P : ℤ → Type ℓ) (n : ℕ) → n < 2 ^ 32
+    → (n < 2 ^ 31 → P (pos n)) → (2 ^ 31 ≤ n → P (negsuc (4294967295 - n))) → P (signed 32 n)
+by-sign P n h low high =
+    below-or-not n (2 ^ 31) (λ l. rw (signed-low n l) (low l)) (λ l. rw (signed-high n l h) (high l))
+
+-- the word of the signed reading is the word
+pub word-signed : (n : ℕ) → n < 2 ^ 32 → wordOf (signed 32 n) ≡ n
+word-signed n h = by-sign (λ z. wordOf z ≡ n) n h (λ l. word-pos n h) (λ l. word-negsuc _ (omega arith) ∙ omega arith)
+
+-- what a wrapping subtraction ensures is the difference
+pub is-difference : (r a b : ℕ) → r < 2 ^ 32 → b < 2 ^ 32 → (r + b) % 2 ^ 32 ≡ a → r ≡ difference a b
+unfolding difference
+is-difference r a b hr hb e = omega arith
+
+-- and the difference is that of the integers
+pub difference-of-integers : (x y : ℕ) → x < 2 ^ 32 → y < 2 ^ 32 → difference x y ≡ wordOf (subℕ x y)
+unfolding difference
+difference-of-integers x y hx hy =
+    below-or-not x y
+    (λ h. rw (sub-neg x y h, word-negsuc (y - suc x) (omega arith)) (omega arith))
+    (λ h. rw (sub-pos x y h, word-pos (x - y) (omega arith)) (omega arith))
