@@ -1,8 +1,11 @@
 -- The laws of `words`, in the order to read them.
 pub mod Cases
 pub mod Integers
-pub mod Division
-pub mod Product
-pub mod Orders
 pub mod SignExtension
+pub mod Product
+pub mod IntegerDivision
+pub mod Division
 pub mod Shifts
+pub mod BitLaws
+pub mod Orders
+pub mod Examples
