@@ -1,4 +1,4 @@
-// Big-endian numbers of one, two and four bytes in a byte slice (manual, chapter 2, section 1).
+// Big-endian numbers of one, two and four bytes in a byte slice (manual, 2.1).
 ghost use mathlib.Core.Path.{_≡_};
 ghost use Prim.Native.Nat.{_+_, _≤_, _<_};
 ghost use lib.ListN.{length};
@@ -35,7 +35,6 @@ pub fn read_word(s: &[u8], at: usize) -> u32
         + wide(s[at + 3])
 }
 
-// The last byte first: so the compiler makes one store of the whole number.
 pub fn write_byte(s: &mut [u8], at: usize, v: u32)
     requires { ⌜ at + 1 ≤ length (now s) ⌝ }
     ensures { λ r. ⌜ now (s .exit) ≡ writeAt 1 (now (s .entry)) at v ⌝ }
@@ -43,6 +42,7 @@ pub fn write_byte(s: &mut [u8], at: usize, v: u32)
     s[at] = (v % 0x100) as u8;
 }
 
+// The last byte first: so the compiler makes one store of the whole number.
 pub fn write_half(s: &mut [u8], at: usize, v: u32)
     requires { ⌜ at + 2 ≤ length (now s) ⌝ }
     ensures { λ r. ⌜ now (s .exit) ≡ writeAt 2 (now (s .entry)) at v ⌝ }

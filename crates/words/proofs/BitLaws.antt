@@ -1,4 +1,5 @@
--- The logic and shift instructions bit by bit, as the manual writes them (chapter 3, sections 3.17 to 3.30).
+-- The logic and shift instructions bit by bit, as the manual writes them (3.3.17 to 3.3.30): AND is min, OR is max, XOR the sum
+-- modulo 2, NOT 1 - b.
 use mathlib.Core.Path.{_≡_, refl, ap, ap₂, sym, _∙_}
 use Prim.Native.Nat.{ℕ, zero, suc, _+_, _*_, _-_, _/_, _%_, _^_, _≤_, _<_, min, max}
 use native.Mathlib.Nat.{add-comm, add-mul, one-mul, mul-assoc, mod-lt, mul-mod-left, div-le-self, div-eq-of-lt, div-lt-iff-lt-mul, lt-of-lt-of-le}

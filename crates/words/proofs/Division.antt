@@ -5,7 +5,7 @@ use native.Mathlib.Nat.{div-le-self, mod-le, le-of-lt}
 use native.Mathlib.Omega.{arith}
 use lib.IntN.{natAbs}
 use borrow.Author.Tests.{le-leb, lt-leb}
-use Rattle.words.specs.Numbers.{signed, wordOf}
+use Rattle.words.specs.Numbers.{truncate, signed, wordOf}
 use Rattle.words.specs.Computation.{difference, withSign, signedQuotient, signedRemainder}
 use Rattle.words.proofs.Cases.{below-or-not}
 use Rattle.words.proofs.Integers.{signed-low, signed-high, by-sign, word-pos, word-negated}
@@ -28,7 +28,7 @@ unfolding withSign
 minus x m h = simp (le-leb 2147483648 x h)
 
 twice : (m : ℕ) → m < 2 ^ 32 → difference 0 (difference 0 m) ≡ m
-unfolding difference
+unfolding difference truncate
 twice m h = omega arith
 
 module _ (x y : ℕ) (hx : x < 2 ^ 32) (hy : y < 2 ^ 32) where
@@ -48,7 +48,7 @@ module _ (x y : ℕ) (hx : x < 2 ^ 32) (hy : y < 2 ^ 32) where
       let a : remainder ≤ natAbs (signed 32 x) = mod-le _ _ in
       omega (arith, magnitude-le x hx)
 
-  -- the quotient of the magnitudes, negative where one operand is
+  -- the quotient of the magnitudes, negative where exactly one operand is
   pub quotient-by-magnitudes : signedQuotient x y ≡ withSign x (withSign y (natAbs (signed 32 x) / natAbs (signed 32 y)))
   unfolding signedQuotient
   quotient-by-magnitudes =

@@ -1,5 +1,5 @@
 -- The quotient and remainder of integers that the definitions use are what their names say: dividend = quotient * divisor + remainder,
--- and the remainder is smaller than the divisor and has the dividend's sign.
+-- and the remainder is smaller in size than the divisor and has the dividend's sign.
 use mathlib.Core.Path.{_≡_, refl, ap, ap₂, sym, _∙_}
 use Prim.Native.Nat.{ℕ, zero, suc, _+_, _*_, _/_, _%_, _<_}
 use native.Mathlib.Nat.{div-add-mod', mod-lt, zero-mul}
@@ -14,7 +14,7 @@ opposite-times-negative : (q b : ℕ) → negℤ (pos q) *ℤ negsuc b ≡ pos (
 opposite-times-negative zero b = ap (λ (n : ℕ). negℤ (pos n)) (zero-mul (suc b)) ∙ ap pos (sym (zero-mul (suc b)))
 opposite-times-negative (suc q) b = refl
 
--- m parts of size b and a rest make n, and so below 0
+-- n is n / b parts of size b and a rest; the same for -n
 whole : (n b : ℕ) → pos n ≡ pos (n / b * b) +ℤ pos (n % b)
 whole n b = ap pos (sym (div-add-mod' n b))
 

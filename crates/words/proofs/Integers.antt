@@ -7,7 +7,7 @@ use lib.IntN.{ℤ, pos, negsuc, negℤ, natAbs, subℕ}
 use lib.Dec.{ltb}
 use borrow.Author.Tests.{lt-ltb, le-ltb}
 use Rattle.words.proofs.Cases.{below-or-not}
-use Rattle.words.specs.Numbers.{bit, signed, wordOf}
+use Rattle.words.specs.Numbers.{bit, truncate, signed, wordOf}
 use Rattle.words.specs.Computation.{difference}
 
 pub sub-pos : (a b : ℕ) → b ≤ a → subℕ a b ≡ pos (a - b)
@@ -32,7 +32,7 @@ signed-high n h k =
 
 -- the word of an integer below 0 makes 0 with the integer's opposite
 pub word-negated : (n : ℕ) → n ≤ 2 ^ 32 → wordOf (negℤ (pos n)) ≡ difference 0 n
-unfolding wordOf difference
+unfolding wordOf difference truncate
 word-negated zero h = refl
 word-negated (suc n) h = omega arith
 
@@ -59,14 +59,23 @@ by-sign P n h low high =
 pub word-signed : (n : ℕ) → n < 2 ^ 32 → wordOf (signed 32 n) ≡ n
 word-signed n h = by-sign (λ z. wordOf z ≡ n) n h (λ l. word-pos n h) (λ l. word-negsuc _ (omega arith) ∙ omega arith)
 
+-- and the signed reading of the word of an integer in the signed range is the integer
+pub signed-word-natural : (n : ℕ) → n < 2 ^ 31 → signed 32 (wordOf (pos n)) ≡ pos n
+signed-word-natural n h = ap (signed 32) (word-pos n (omega arith)) ∙ signed-low n h
+
+pub signed-word-negative : (n : ℕ) → n < 2 ^ 31 → signed 32 (wordOf (negsuc n)) ≡ negsuc n
+signed-word-negative n h =
+    let back : 4294967295 - (4294967295 - n) ≡ n = omega arith in
+    ap (signed 32) (word-negsuc n (omega arith)) ∙ signed-high (4294967295 - n) (omega arith) (omega arith) ∙ ap negsuc back
+
 -- what a wrapping subtraction ensures is the difference
 pub is-difference : (r a b : ℕ) → r < 2 ^ 32 → b < 2 ^ 32 → (r + b) % 2 ^ 32 ≡ a → r ≡ difference a b
-unfolding difference
+unfolding difference truncate
 is-difference r a b hr hb e = omega arith
 
 -- and the difference is that of the integers
 pub difference-of-integers : (x y : ℕ) → x < 2 ^ 32 → y < 2 ^ 32 → difference x y ≡ wordOf (subℕ x y)
-unfolding difference
+unfolding difference truncate
 difference-of-integers x y hx hy =
     below-or-not x y
     (λ h. rw (sub-neg x y h, word-negsuc (y - suc x) (omega arith)) (omega arith))

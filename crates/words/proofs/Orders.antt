@@ -7,7 +7,7 @@ use lib.Dec.{ltb, leb, eqb}
 use lib.Signed.{ltZ, leZ}
 use lib.IntN.{ℤ, pos, negsuc}
 use borrow.Author.Tests.{lt-ltb, le-ltb, le-leb, lt-leb, eq-eqb, ne-eqb, eqb-true, eqb-false}
-use Rattle.words.specs.Numbers.{signed}
+use Rattle.words.specs.Numbers.{truncate, signed}
 use Rattle.words.specs.Computation.{sum}
 use Rattle.words.specs.Comparison.{unsignedHolds, signedHolds}
 use Rattle.words.specs.declared.comparison.Order.{Order}
@@ -55,7 +55,7 @@ less-or-equal x y hx hy = leZ-not (signed 32 x) (signed 32 y) ∙ ap not (less y
 
 pub signed-by-unsigned : (o : Order) (x y : ℕ) → x < 2 ^ 32 → y < 2 ^ 32
     → signedHolds o x y ≡ unsignedHolds o (sum x 2147483648) (sum y 2147483648)
-unfolding signedHolds unsignedHolds sum
+unfolding signedHolds unsignedHolds sum truncate
 signed-by-unsigned Equal x y hx hy = equal x y hx hy
 signed-by-unsigned NotEqual x y hx hy = ap not (equal x y hx hy)
 signed-by-unsigned LessOrEqual x y hx hy = less-or-equal x y hx hy

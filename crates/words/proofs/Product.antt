@@ -1,10 +1,10 @@
--- The signed and the unsigned product have the same low 32 bits (manual, chapter 3, sections 3.5 to 3.8).
+-- The signed and the unsigned product have the same low 32 bits (manual, 3.3.5 to 3.3.8).
 use mathlib.Core.Path.{_≡_, refl, ap, sym, _∙_}
 use Prim.Native.Nat.{ℕ, zero, suc, _+_, _*_, _-_, _/_, _%_, _^_, _≤_, _<_}
 use native.Mathlib.Nat.{mul-comm, mul-mod-left, mul-mod-right, mul-le-mul, lt-of-le-of-lt, le-pred-of-lt, mod-eq-of-lt, add-mul, mul-add}
 use native.Mathlib.Omega.{arith}
 use lib.IntN.{ℤ, pos, negsuc, negℤ}
-use Rattle.words.specs.Numbers.{signed, wordOf}
+use Rattle.words.specs.Numbers.{truncate, signed, wordOf}
 use Rattle.words.specs.Computation.{signedProduct, unsignedProduct}
 use Rattle.words.proofs.Cases.{below-or-not}
 use Rattle.words.proofs.Integers.{signed-low, signed-high, word-lt}
@@ -31,7 +31,7 @@ kept : (z : ℤ) → wordOf z % 2 ^ 32 ≡ wordOf z
 kept z = mod-eq-of-lt (word-lt z)
 
 pub products-agree : (x y : ℕ) → x < 2 ^ 32 → y < 2 ^ 32 → signedProduct x y ≡ unsignedProduct x y
-unfolding signedProduct unsignedProduct wordOf
+unfolding signedProduct unsignedProduct truncate wordOf
 products-agree x y hx hy =
     let a : ℕ = suc (4294967295 - x) in
     let b : ℕ = suc (4294967295 - y) in

@@ -1,4 +1,4 @@
--- Sign extension at any width up to 32: the code's two sums give it, and it keeps the signed reading (manual, chapter 2, section 1).
+-- Sign extension at any width up to 32: the code's two sums give it, and it keeps the signed reading (manual, 2.1).
 use mathlib.Core.Path.{_≡_, refl, ap, sym, subst, _∙_}
 use Prim.Native.Nat.{ℕ, zero, suc, _+_, _*_, _-_, _/_, _%_, _^_, _≤_, _<_}
 use native.Mathlib.Nat.{mod-lt, mod-eq-of-lt, add-mod-right, zero-mul, zero-add, add-zero, one-mul, sub-zero}

@@ -1,4 +1,4 @@
--- The conditions of the branches (manual, chapter 3, section 4): six orders, on the unsigned and on the signed readings.
+-- The conditions of the branches (manual, 3.4): six orders, on the unsigned and on the signed readings.
 use mathlib.Core.Bool.{Bool, not}
 use Prim.Native.Nat.{ℕ}
 use lib.Dec.{ltb, leb, eqb}

@@ -2,3 +2,4 @@
 pub mod Numbers
 pub mod Computation
 pub mod Comparison
+pub mod Logic

@@ -1,4 +1,4 @@
-// The conditions of the branches (manual, chapter 3, section 4).
+// The conditions of the branches (manual, 3.4).
 use crate::computation;
 ghost use mathlib.Core.Path.{_≡_};
 ghost use Rattle.words.specs.Comparison.{unsignedHolds, signedHolds};

@@ -1,4 +1,4 @@
-// The computation instructions on words (manual, chapter 3, section 3).
+// The computation instructions on words (manual, 3.3).
 ghost use mathlib.Core.Path.{_≡_};
 ghost use lib.IntN.{natAbs};
 ghost use Rattle.words.specs.Numbers.{signed};

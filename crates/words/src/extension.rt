@@ -1,4 +1,4 @@
-// Zero and sign extension of the low 8, 16 or 26 bits to a word (manual, chapter 2, section 1).
+// Zero and sign extension of the low 8, 16 or 26 bits to a word (manual, 2.1).
 ghost use mathlib.Core.Path.{_≡_};
 ghost use Rattle.words.specs.Numbers.{zeroExtend, signExtend};
 
@@ -20,7 +20,7 @@ pub fn zero_extend_26(n: u32) -> u32
     n % 0x400_0000
 }
 
-// The sign bit's weight is added modulo the width, and taken off again modulo 2^32.
+// The sign bit's weight is added modulo 2^8 (2^16, 2^26) and taken off again modulo 2^32.
 pub fn sign_extend_8(n: u32) -> u32
     ensures { λ r. ⌜ r ≡ signExtend 8 n ⌝ }
 {

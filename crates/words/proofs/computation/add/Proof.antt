@@ -1,5 +1,6 @@
 -- `words::computation::add` meets its contract, by its definition.
 use borrow.Author.Needs.{needs}
+use Rattle.words.specs.Numbers.{truncate}
 use Rattle.words.specs.Computation.{sum}
 use Rattle.words.proofs.computation.add.Statement.{statement}
 use Rattle.words.proofs.computation.add.Tie as tie
@@ -8,7 +9,7 @@ wrapping-add-u32-requires : tie.Need-wrapping-add-u32-requires
 wrapping-add-u32-requires c κs = search needs
 
 returns : tie.Need-returns
-unfolding sum
+unfolding sum truncate
 returns c = search needs
 
 pub add-spec : {M : Type 1} → statement M

@@ -1,6 +1,7 @@
 -- `words::computation::multiply` meets its contract, by the laws of Product.
 use mathlib.Core.Path.{refl, sym}
 use borrow.Author.Needs.{needs}
+use Rattle.words.specs.Numbers.{truncate}
 use Rattle.words.specs.Computation.{unsignedProduct}
 use Rattle.words.proofs.Product.{product-fits, products-agree}
 use Rattle.words.proofs.computation.multiply.Statement.{statement}
@@ -13,7 +14,7 @@ cast-result : tie.Need-cast-result
 cast-result c = search needs
 
 returns : tie.Need-returns
-unfolding unsignedProduct
+unfolding unsignedProduct truncate
 returns c = (refl, sym (products-agree (c .args .x) (c .args .y) (c .fits .x .fits) (c .fits .y .fits)))
 
 pub multiply-spec : {M : Type 1} → statement M
