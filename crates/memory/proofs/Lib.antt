@@ -4,3 +4,4 @@ pub mod Outcomes
 pub mod OwnBytes
 pub mod StoreLaws
 pub mod Frames
+pub mod Examples

@@ -4,15 +4,15 @@ use mathlib.Core.List.{List}
 use Prim.Native.Nat.{ℕ, _+_, _≤_}
 use lib.ListN.{length}
 use Rattle.endian.specs.BigEndian.{readAt, writeAt}
-use Rattle.memory.specs.Map.{Memory, memory, placeOf, placeIn}
-use Rattle.memory.specs.Access.{readIn, loadOf, completes, storeAnswer, writeIn, storedOf}
+use Rattle.memory.specs.Map.{Memory, memory, locate, placeOf, placeIn}
+use Rattle.memory.specs.Access.{readIn, loadOf, completes, storeAnswer, writeIn, memoryAfter, loadedEid, loadedValue, storedEid}
 use Rattle.memory.specs.declared.Place.{Place}
 use Rattle.memory.specs.declared.Place.the-variants.{Ram, Rom, Belt, Nothing}
 use Rattle.memory.specs.declared.Loaded.{Loaded}
 use Rattle.memory.specs.declared.Loaded.the-variants as loaded
 use Rattle.memory.specs.declared.Stored.{Stored}
 use Rattle.memory.specs.declared.Stored.the-variants as stored
-use Rattle.memory.proofs.Places.{belt-answers-words}
+use Rattle.memory.proofs.Places.{place-by, narrow-belt, belt-answers-words}
 
 module _ (w : ℕ) (m : Memory) (a : ℕ) where
   pub load-at : (p : Place) → placeIn w m a ≡ p → loadOf w m a ≡ readIn w m p
@@ -23,9 +23,46 @@ module _ (w : ℕ) (m : Memory) (a : ℕ) where
   unfolding storeAnswer
   answer-at p e = ap completes e
 
-  pub stored-at : (p : Place) (v : ℕ) → placeIn w m a ≡ p → storedOf w m a v ≡ writeIn w m p v
-  unfolding storedOf
+  pub stored-at : (p : Place) (v : ℕ) → placeIn w m a ≡ p → memoryAfter w m a v ≡ writeIn w m p v
+  unfolding memoryAfter
   stored-at p v e = ap (λ (q : Place). writeIn w m q v) e
+
+  -- ---- the numbers of an answer
+
+  -- a bus timeout is 16
+  pub load-times-out : placeIn w m a ≡ Nothing → loadedEid (loadOf w m a) ≡ 16
+  load-times-out e = ap loadedEid (load-at Nothing e)
+
+  pub store-times-out : placeIn w m a ≡ Nothing → storedEid (storeAnswer w m a) ≡ 16
+  store-times-out e = ap storedEid (answer-at Nothing e)
+
+  -- an answered access names no exception, and a load brings the number that is there
+  abbrev Brings : ℕ → Type 0
+  Brings v = (loadedEid (loadOf w m a) ≡ 32) × (loadedValue (loadOf w m a) ≡ v)
+
+  pub load-brings-ram : (at : ℕ) → placeIn w m a ≡ Ram at → Brings (readAt w (m .ram) at)
+  load-brings-ram at e = (ap loadedEid (load-at (Ram at) e), ap loadedValue (load-at (Ram at) e))
+
+  pub load-brings-rom : (at : ℕ) → placeIn w m a ≡ Rom at → Brings (readAt w (m .rom) at)
+  load-brings-rom at e = (ap loadedEid (load-at (Rom at) e), ap loadedValue (load-at (Rom at) e))
+
+  pub load-brings-belt : (at : ℕ) → placeIn w m a ≡ Belt at → Brings (readAt w (m .belt) at)
+  load-brings-belt at e = (ap loadedEid (load-at (Belt at) e), ap loadedValue (load-at (Belt at) e))
+
+  pub store-to-rom-completes : (at : ℕ) → placeIn w m a ≡ Rom at → storedEid (storeAnswer w m a) ≡ 32
+  store-to-rom-completes at e = ap storedEid (answer-at (Rom at) e)
+
+  -- a byte or half-word access to a belt register times out
+  module _ (narrow : w ≡ 4 → ⊥) (at : ℕ)
+      (belt : locate w (length (m .ram)) (length (m .rom)) (length (m .belt)) a ≡ Belt at) where
+    unanswered : placeIn w m a ≡ Nothing
+    unanswered = place-by w (length (m .ram)) (length (m .rom)) (length (m .belt)) a belt ∙ narrow-belt w at narrow
+
+    pub belt-load-times-out : loadedEid (loadOf w m a) ≡ 16
+    belt-load-times-out = load-times-out unanswered
+
+    pub belt-store-times-out : storedEid (storeAnswer w m a) ≡ 16
+    belt-store-times-out = store-times-out unanswered
 
 -- ---- as the code meets them: the place it was told, and what it read or wrote there
 
@@ -52,7 +89,7 @@ module _ (w : ℕ) (ram rom belt : List ℕ) (a : ℕ) where
   abbrev Stores : ℕ → Stored → List ℕ → List ℕ → Type 0
   Stores v answer ram′ belt′ =
       (answer ≡ storeAnswer w (memory ram rom belt) a)
-      × (memory ram′ rom belt′ ≡ storedOf w (memory ram rom belt) a v)
+      × (memory ram′ rom belt′ ≡ memoryAfter w (memory ram rom belt) a v)
 
   pub stores-ram : (at v : ℕ) (ram′ : List ℕ) → At (Ram at) → ram′ ≡ writeAt w ram at v → Stores v stored.Done ram′ belt
   stores-ram at v ram′ e h = (

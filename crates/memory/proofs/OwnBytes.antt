@@ -14,9 +14,13 @@ use Rattle.memory.specs.declared.Loaded.the-variants as loaded
 use Rattle.memory.proofs.Places.{locate-ram, locate-rom, locate-belt, true-within, within-past, within-not, Lies, place-lies}
 use Rattle.memory.proofs.Outcomes.{load-at}
 
--- no two of the three share an address; so it is at every length that a run accepts
+-- no two of the three share an address
 abbrev pub Apart : Memory → Type 0
 Apart m = (length (m .ram) ≤ romBase) × (romBase + length (m .rom) ≤ beltBase)
+
+-- so it is at every length that a run accepts (document 01, "What the host lends")
+pub accepted-apart : (m : Memory) → length (m .ram) ≤ 536870912 → length (m .rom) ≤ 268435456 → Apart m
+accepted-apart m ram rom = (ram, omega arith)
 
 -- the same three lengths
 abbrev pub SameLengths : Memory → Memory → Type 0

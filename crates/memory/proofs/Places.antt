@@ -1,11 +1,12 @@
 -- The place of an access: what it is in each case of the map, and what it tells of the address and the lengths.
 use mathlib.Core.Path.{_≡_, refl, ap, sym, subst, _∙_}
-use mathlib.Core.Bool.{Bool, true, false}
+use mathlib.Core.Bool.{Bool, true, false, cond}
 use Prim.Native.Nat.{ℕ, _+_, _-_, _≤_, _<_}
 use native.Mathlib.Omega.{arith}
 use lib.Dec.{leb, eqb}
 use borrow.Author.Tests.{leb-true, leb-false, le-leb, lt-leb, eqb-true, eq-eqb, ne-eqb}
-use Rattle.memory.specs.Map.{both, within, pick, locate, wordsOnly, placeOf, romBase, beltBase}
+use Rattle.words.specs.Logic.{both}
+use Rattle.memory.specs.Map.{within, locate, wordsOnly, placeOf, romBase, beltBase}
 use Rattle.memory.specs.declared.Place.{Place}
 use Rattle.memory.specs.declared.Place.the-variants.{Ram, Rom, Belt, Nothing}
 
@@ -75,7 +76,7 @@ Lies w r o b a (Rom at) = (romBase + at ≡ a) × (at + w ≤ o)
 Lies w r o b a (Belt at) = (beltBase + at ≡ a) × (at + w ≤ b)
 Lies w r o b a Nothing = Unit {0}
 
-case : (P : Place → Type 0) (t : Bool) {p q : Place} → (t ≡ true → P p) → (t ≡ false → P q) → P (pick t p q)
+case : (P : Place → Type 0) (t : Bool) {p q : Place} → (t ≡ true → P p) → (t ≡ false → P q) → P (cond t p q)
 case P true f g = f refl
 case P false f g = g refl
 

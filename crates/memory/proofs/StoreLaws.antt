@@ -7,7 +7,7 @@ use lib.ListN.{length, getD}
 use Rattle.endian.specs.BigEndian.{readAt, writeAt}
 use Rattle.endian.proofs.Widths.{length-write, write-other, read-write}
 use Rattle.memory.specs.Map.{Memory, memory, locate, placeOf, placeIn, byteIn, byteAt, romBase, beltBase}
-use Rattle.memory.specs.Access.{readIn, loadOf, writeIn, storedOf}
+use Rattle.memory.specs.Access.{readIn, loadOf, writeIn, memoryAfter}
 use Rattle.memory.specs.declared.Place.{Place}
 use Rattle.memory.specs.declared.Place.the-variants.{Ram, Rom, Belt, Nothing}
 use Rattle.memory.specs.declared.Loaded.the-variants as loaded
@@ -23,8 +23,8 @@ module _ (w : ℕ) (m : Memory) (a v : ℕ) where
   write-lengths (Belt at) = (refl, refl, length-write w (m .belt) at v)
   write-lengths Nothing = (refl, refl, refl)
 
-  pub store-lengths : SameLengths (storedOf w m a v) m
-  unfolding storedOf
+  pub store-lengths : SameLengths (memoryAfter w m a v) m
+  unfolding memoryAfter
   store-lengths = write-lengths (placeIn w m a)
 
   -- ROM stays
@@ -34,8 +34,8 @@ module _ (w : ℕ) (m : Memory) (a v : ℕ) where
   write-rom (Belt at) = refl
   write-rom Nothing = refl
 
-  pub store-rom : storedOf w m a v .rom ≡ m .rom
-  unfolding storedOf
+  pub store-rom : memoryAfter w m a v .rom ≡ m .rom
+  unfolding memoryAfter
   store-rom = write-rom (placeIn w m a)
 
   -- a byte that is not among the w from the address stays
@@ -54,26 +54,26 @@ module _ (w : ℕ) (m : Memory) (a v : ℕ) where
   kept-in j other (Belt at) Nothing h k = refl
   kept-in j other Nothing q h k = refl
 
-  pub store-keeps : (j : ℕ) → ((i : ℕ) → i < w → j ≡ a + i → ⊥) → byteAt (storedOf w m a v) j ≡ byteAt m j
-  unfolding byteAt storedOf
+  pub store-keeps : (j : ℕ) → ((i : ℕ) → i < w → j ≡ a + i → ⊥) → byteAt (memoryAfter w m a v) j ≡ byteAt m j
+  unfolding byteAt memoryAfter
   store-keeps j other =
       let r : ℕ = length (m .ram) in
       let o : ℕ = length (m .rom) in
       let b : ℕ = length (m .belt) in
-      ap (byteIn (writeIn w m (placeIn w m a) v)) (same-locate (storedOf w m a v) m store-lengths 1 j)
+      ap (byteIn (writeIn w m (placeIn w m a) v)) (same-locate (memoryAfter w m a v) m store-lengths 1 j)
       ∙ kept-in j other (placeIn w m a) (locate 1 r o b j) (place-lies w r o b a (placeIn w m a) refl) (lies 1 r o b j)
 
   -- a load from where a store went gives its low w bytes
-  pub load-stored-ram : (at : ℕ) → placeIn w m a ≡ Ram at → loadOf w (storedOf w m a v) a ≡ loaded.Value (v % 256 ^ w)
+  pub load-stored-ram : (at : ℕ) → placeIn w m a ≡ Ram at → loadOf w (memoryAfter w m a v) a ≡ loaded.Value (v % 256 ^ w)
   load-stored-ram at e =
-      load-at w (storedOf w m a v) a (Ram at) (same-place (storedOf w m a v) m store-lengths w a ∙ e)
+      load-at w (memoryAfter w m a v) a (Ram at) (same-place (memoryAfter w m a v) m store-lengths w a ∙ e)
       ∙ ap (λ (n : Memory). loaded.Value (readAt w (n .ram) at)) (stored-at w m a (Ram at) v e)
       ∙ ap loaded.Value (read-write w (m .ram) at v
       (place-lies w (length (m .ram)) (length (m .rom)) (length (m .belt)) a (Ram at) e .1))
 
-  pub load-stored-belt : (at : ℕ) → placeIn w m a ≡ Belt at → loadOf w (storedOf w m a v) a ≡ loaded.Value (v % 256 ^ w)
+  pub load-stored-belt : (at : ℕ) → placeIn w m a ≡ Belt at → loadOf w (memoryAfter w m a v) a ≡ loaded.Value (v % 256 ^ w)
   load-stored-belt at e =
-      load-at w (storedOf w m a v) a (Belt at) (same-place (storedOf w m a v) m store-lengths w a ∙ e)
+      load-at w (memoryAfter w m a v) a (Belt at) (same-place (memoryAfter w m a v) m store-lengths w a ∙ e)
       ∙ ap (λ (n : Memory). loaded.Value (readAt w (n .belt) at)) (stored-at w m a (Belt at) v e)
       ∙ ap loaded.Value (read-write w (m .belt) at v
       (place-lies w (length (m .ram)) (length (m .rom)) (length (m .belt)) a (Belt at) e .1))

@@ -1,4 +1,4 @@
--- Loads and stores of w bytes at a physical address (document 01, "One step" and "Closed by us"; manual, chapter 3, section 5).
+-- Loads and stores of w bytes at a physical address (document 01, "One step" and "Closed by us"; manual, 3.5).
 use mathlib.Core.List.{List}
 use Prim.Native.Nat.{ℕ}
 use Rattle.endian.specs.BigEndian.{readAt, writeAt}
@@ -10,16 +10,18 @@ use Rattle.memory.specs.declared.Loaded.the-variants as loaded
 use Rattle.memory.specs.declared.Stored.{Stored}
 use Rattle.memory.specs.declared.Stored.the-variants as stored
 
+-- what is read at a place
 abbrev pub readIn : ℕ → Memory → Place → Loaded
 readIn w m (Ram at) = loaded.Value (readAt w (m .ram) at)
 readIn w m (Rom at) = loaded.Value (readAt w (m .rom) at)
 readIn w m (Belt at) = loaded.Value (readAt w (m .belt) at)
 readIn w m Nothing = loaded.Timeout
 
--- a load: the big-endian number at the place that answers
+-- a load: the big-endian number of w bytes there, or a timeout
 unfoldable pub loadOf : ℕ → Memory → ℕ → Loaded
 loadOf w m address = readIn w m (placeIn w m address)
 
+-- whether a store at a place is answered
 abbrev pub completes : Place → Stored
 completes (Ram at) = stored.Done
 completes (Rom at) = stored.Done
@@ -30,20 +32,25 @@ completes Nothing = stored.Timeout
 unfoldable pub storeAnswer : ℕ → Memory → ℕ → Stored
 storeAnswer w m address = completes (placeIn w m address)
 
+-- the memory with the low w bytes of v at a place
 abbrev pub writeIn : ℕ → Memory → Place → ℕ → Memory
 writeIn w m (Ram at) v = memory (writeAt w (m .ram) at v) (m .rom) (m .belt)
 writeIn w m (Rom at) v = m
 writeIn w m (Belt at) v = memory (m .ram) (m .rom) (writeAt w (m .belt) at v)
 writeIn w m Nothing v = m
 
--- the memory after a store: ROM never changes
-unfoldable pub storedOf : ℕ → Memory → ℕ → ℕ → Memory
-storedOf w m address v = writeIn w m (placeIn w m address) v
+-- the memory after a store: the low w bytes of v are there; ROM never changes
+unfoldable pub memoryAfter : ℕ → Memory → ℕ → ℕ → Memory
+memoryAfter w m address v = writeIn w m (placeIn w m address) v
 
--- the exception that an answer names: 16, or 32 for none
+-- the numbers of an answer: the exception that it names, 16, or 32 for none; and what a load brings, 0 where it times out
 abbrev pub loadedEid : Loaded → ℕ
 loadedEid (loaded.Value v) = 32
 loadedEid loaded.Timeout = 16
+
+abbrev pub loadedValue : Loaded → ℕ
+loadedValue (loaded.Value v) = v
+loadedValue loaded.Timeout = 0
 
 abbrev pub storedEid : Stored → ℕ
 storedEid stored.Done = 32

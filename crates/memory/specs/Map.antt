@@ -1,9 +1,10 @@
--- The physical address map (document 01, "What the host lends" and "Closed by us"; manual, chapter 2, section 2).
-use mathlib.Core.Bool.{Bool, true, false}
+-- The physical address map (document 01, "What the host lends" and "Closed by us"; manual, 2.2).
+use mathlib.Core.Bool.{Bool, cond}
 use mathlib.Core.List.{List}
 use Prim.Native.Nat.{ℕ, _+_, _-_}
 use lib.Dec.{leb, eqb}
 use lib.ListN.{length, getD}
+use Rattle.words.specs.Logic.{both}
 use Rattle.memory.specs.declared.Place.{Place}
 use Rattle.memory.specs.declared.Place.the-variants.{Ram, Rom, Belt, Nothing}
 
@@ -23,27 +24,18 @@ romBase = 0x20000000
 abbrev pub beltBase : ℕ
 beltBase = 0x30500000
 
--- both tests pass
-abbrev pub both : Bool → Bool → Bool
-both true t = t
-both false t = false
-
 -- all w bytes from an address lie in the n bytes from a base
 unfoldable pub within : ℕ → ℕ → ℕ → ℕ → Bool
 within base n w address = both (leb base address) (leb (address - base + w) n)
 
-abbrev pub pick : Bool → Place → Place → Place
-pick true p q = p
-pick false p q = q
-
 -- what holds the w bytes from an address, by the lengths of RAM, ROM and belt, and at which offset
 unfoldable pub locate : ℕ → ℕ → ℕ → ℕ → ℕ → Place
 locate w ram rom belt address =
-    pick (within 0 ram w address)
+    cond (within 0 ram w address)
     (Ram address)
-    (pick (within romBase rom w address)
+    (cond (within romBase rom w address)
     (Rom (address - romBase))
-    (pick (within beltBase belt w address)
+    (cond (within beltBase belt w address)
     (Belt (address - beltBase))
     Nothing))
 
@@ -51,7 +43,7 @@ locate w ram rom belt address =
 abbrev pub wordsOnly : ℕ → Place → Place
 wordsOnly w (Ram at) = Ram at
 wordsOnly w (Rom at) = Rom at
-wordsOnly w (Belt at) = pick (eqb w 4) (Belt at) Nothing
+wordsOnly w (Belt at) = cond (eqb w 4) (Belt at) Nothing
 wordsOnly w Nothing = Nothing
 
 -- what answers an access of w bytes

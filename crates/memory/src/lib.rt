@@ -3,7 +3,7 @@
 
 ghost use mathlib.Core.Path.{_≡_};
 ghost use Rattle.memory.specs.Map.{within, placeOf, memory};
-ghost use Rattle.memory.specs.Access.{loadOf, storeAnswer, storedOf};
+ghost use Rattle.memory.specs.Access.{loadOf, storeAnswer, memoryAfter};
 
 const ROM_BASE: u32 = 0x2000_0000;
 
@@ -27,7 +27,7 @@ pub enum Stored {
     Timeout,
 }
 
-fn within(base: u32, len: usize, address: u32, width: u32) -> bool
+fn within(base: u32, len: usize, width: u32, address: u32) -> bool
     ensures { λ r. ⌜ r ≡ within base len width address ⌝ }
 {
     if address < base {
@@ -37,16 +37,16 @@ fn within(base: u32, len: usize, address: u32, width: u32) -> bool
 }
 
 // The place of the width's bytes from an address, by the lengths of RAM, ROM and belt.
-pub fn place_of(ram: usize, rom: usize, belt: usize, address: u32, width: u32) -> Place
+pub fn place_of(width: u32, ram: usize, rom: usize, belt: usize, address: u32) -> Place
     ensures { λ r. ⌜ r ≡ placeOf width ram rom belt address ⌝ }
 {
-    if within(0, ram, address, width) {
+    if within(0, ram, width, address) {
         return Place::Ram(address);
     }
-    if within(ROM_BASE, rom, address, width) {
+    if within(ROM_BASE, rom, width, address) {
         return Place::Rom(address - ROM_BASE);
     }
-    if within(BELT_BASE, belt, address, width) {
+    if within(BELT_BASE, belt, width, address) {
         if width == 4 {
             return Place::Belt(address - BELT_BASE);
         }
@@ -58,7 +58,7 @@ pub fn place_of(ram: usize, rom: usize, belt: usize, address: u32, width: u32) -
 pub fn load_byte(ram: &[u8], rom: &[u8], belt: &[u8], address: u32) -> Loaded
     ensures { λ r. ⌜ r ≡ loadOf 1 (memory (now (ram .entry)) (now (rom .entry)) (now (belt .entry))) address ⌝ }
 {
-    let place = place_of(ram.len(), rom.len(), belt.len(), address, 1);
+    let place = place_of(1, ram.len(), rom.len(), belt.len(), address);
     match place {
         Place::Ram(at) => Loaded::Value(endian::read_byte(ram, at as usize)),
         Place::Rom(at) => Loaded::Value(endian::read_byte(rom, at as usize)),
@@ -70,7 +70,7 @@ pub fn load_byte(ram: &[u8], rom: &[u8], belt: &[u8], address: u32) -> Loaded
 pub fn load_half(ram: &[u8], rom: &[u8], belt: &[u8], address: u32) -> Loaded
     ensures { λ r. ⌜ r ≡ loadOf 2 (memory (now (ram .entry)) (now (rom .entry)) (now (belt .entry))) address ⌝ }
 {
-    let place = place_of(ram.len(), rom.len(), belt.len(), address, 2);
+    let place = place_of(2, ram.len(), rom.len(), belt.len(), address);
     match place {
         Place::Ram(at) => Loaded::Value(endian::read_half(ram, at as usize)),
         Place::Rom(at) => Loaded::Value(endian::read_half(rom, at as usize)),
@@ -82,7 +82,7 @@ pub fn load_half(ram: &[u8], rom: &[u8], belt: &[u8], address: u32) -> Loaded
 pub fn load_word(ram: &[u8], rom: &[u8], belt: &[u8], address: u32) -> Loaded
     ensures { λ r. ⌜ r ≡ loadOf 4 (memory (now (ram .entry)) (now (rom .entry)) (now (belt .entry))) address ⌝ }
 {
-    let place = place_of(ram.len(), rom.len(), belt.len(), address, 4);
+    let place = place_of(4, ram.len(), rom.len(), belt.len(), address);
     match place {
         Place::Ram(at) => Loaded::Value(endian::read_word(ram, at as usize)),
         Place::Rom(at) => Loaded::Value(endian::read_word(rom, at as usize)),
@@ -93,9 +93,9 @@ pub fn load_word(ram: &[u8], rom: &[u8], belt: &[u8], address: u32) -> Loaded
 
 pub fn store_byte(ram: &mut [u8], rom: &[u8], belt: &mut [u8], address: u32, value: u32) -> Stored
     ensures answer { λ r. ⌜ r ≡ storeAnswer 1 (memory (now (ram .entry)) (now (rom .entry)) (now (belt .entry))) address ⌝ }
-    ensures contents { λ r. ⌜ memory (now (ram .exit)) (now (rom .entry)) (now (belt .exit)) ≡ storedOf 1 (memory (now (ram .entry)) (now (rom .entry)) (now (belt .entry))) address value ⌝ }
+    ensures contents { λ r. ⌜ memory (now (ram .exit)) (now (rom .entry)) (now (belt .exit)) ≡ memoryAfter 1 (memory (now (ram .entry)) (now (rom .entry)) (now (belt .entry))) address value ⌝ }
 {
-    let place = place_of(ram.len(), rom.len(), belt.len(), address, 1);
+    let place = place_of(1, ram.len(), rom.len(), belt.len(), address);
     match place {
         Place::Ram(at) => {
             endian::write_byte(ram, at as usize, value);
@@ -109,9 +109,9 @@ pub fn store_byte(ram: &mut [u8], rom: &[u8], belt: &mut [u8], address: u32, val
 
 pub fn store_half(ram: &mut [u8], rom: &[u8], belt: &mut [u8], address: u32, value: u32) -> Stored
     ensures answer { λ r. ⌜ r ≡ storeAnswer 2 (memory (now (ram .entry)) (now (rom .entry)) (now (belt .entry))) address ⌝ }
-    ensures contents { λ r. ⌜ memory (now (ram .exit)) (now (rom .entry)) (now (belt .exit)) ≡ storedOf 2 (memory (now (ram .entry)) (now (rom .entry)) (now (belt .entry))) address value ⌝ }
+    ensures contents { λ r. ⌜ memory (now (ram .exit)) (now (rom .entry)) (now (belt .exit)) ≡ memoryAfter 2 (memory (now (ram .entry)) (now (rom .entry)) (now (belt .entry))) address value ⌝ }
 {
-    let place = place_of(ram.len(), rom.len(), belt.len(), address, 2);
+    let place = place_of(2, ram.len(), rom.len(), belt.len(), address);
     match place {
         Place::Ram(at) => {
             endian::write_half(ram, at as usize, value);
@@ -125,9 +125,9 @@ pub fn store_half(ram: &mut [u8], rom: &[u8], belt: &mut [u8], address: u32, val
 
 pub fn store_word(ram: &mut [u8], rom: &[u8], belt: &mut [u8], address: u32, value: u32) -> Stored
     ensures answer { λ r. ⌜ r ≡ storeAnswer 4 (memory (now (ram .entry)) (now (rom .entry)) (now (belt .entry))) address ⌝ }
-    ensures contents { λ r. ⌜ memory (now (ram .exit)) (now (rom .entry)) (now (belt .exit)) ≡ storedOf 4 (memory (now (ram .entry)) (now (rom .entry)) (now (belt .entry))) address value ⌝ }
+    ensures contents { λ r. ⌜ memory (now (ram .exit)) (now (rom .entry)) (now (belt .exit)) ≡ memoryAfter 4 (memory (now (ram .entry)) (now (rom .entry)) (now (belt .entry))) address value ⌝ }
 {
-    let place = place_of(ram.len(), rom.len(), belt.len(), address, 4);
+    let place = place_of(4, ram.len(), rom.len(), belt.len(), address);
     match place {
         Place::Ram(at) => {
             endian::write_word(ram, at as usize, value);
