@@ -1,0 +1,10 @@
+-- The laws of `processor`, in the order to read them.
+pub mod PswLaws
+pub mod EntryLaws
+pub mod Loops
+pub mod FitLaws
+pub mod FitKept
+pub mod Lowest
+pub mod Granted
+pub mod Ready
+pub mod StarredCases

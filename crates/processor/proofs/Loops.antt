@@ -1,0 +1,65 @@
+-- The three searches upward, as their loops run: a turn more, a turn that ends the search, and the end.
+use mathlib.Core.Path.{_≡_, refl, ap, ap₂, sym, _∙_}
+use mathlib.Core.Bool.{Bool, true, false}
+use mathlib.Core.List.{List}
+use Prim.Native.Nat.{ℕ, zero, suc, _+_, _-_, _/_, _%_, _≤_, _<_}
+use native.Mathlib.Numerals.{add-one}
+use native.Mathlib.Omega.{arith}
+use lib.ListN.{getD}
+use borrow.Author.Tests.{eq-eqb, ne-eqb}
+use Rattle.processor.specs.State.{onlyFrom}
+use Rattle.processor.specs.Tlb.{pageOf, findFrom}
+use Rattle.processor.specs.Interrupt.{lowest}
+
+-- of n turns, those left at turn i
+left : (n i : ℕ) → i < n → n - i ≡ suc (n - (i + 1))
+left n i h = omega arith
+
+over : (n i : ℕ) → n ≤ i → n - i ≡ 0
+over n i h = omega arith
+
+-- ---- the entry of a page
+
+module _ (n : ℕ) (highs : List ℕ) (i page : ℕ) where
+  pub find-more : i < n → (pageOf (getD highs i 0) ≡ page → ⊥)
+      → findFrom (n - i) highs i page ≡ findFrom (n - (i + 1)) highs (i + 1) page
+  unfolding findFrom
+  find-more h other = rw (left n i h, add-one i) (simp (ne-eqb _ _ other))
+
+  pub find-stop : i < n → pageOf (getD highs i 0) ≡ page → findFrom (n - i) highs i page ≡ i
+  unfolding findFrom
+  find-stop h same = rw (left n i h) (simp (eq-eqb _ _ same))
+
+  pub find-end : n ≤ i → findFrom (n - i) highs i page ≡ i
+  unfolding findFrom
+  find-end h = rw (over n i h)
+
+-- ---- words with no bit but the kept ones
+
+module _ (kept : ℕ → ℕ) (n : ℕ) (l : List ℕ) (i : ℕ) where
+  pub only-more : i < n → kept (getD l i 0) ≡ getD l i 0 → onlyFrom kept (n - i) l i ≡ onlyFrom kept (n - (i + 1)) l (i + 1)
+  unfolding onlyFrom
+  only-more h same = rw (left n i h, add-one i) (simp (eq-eqb _ _ same))
+
+  pub only-stop : i < n → (kept (getD l i 0) ≡ getD l i 0 → ⊥) → onlyFrom kept (n - i) l i ≡ false
+  unfolding onlyFrom
+  only-stop h other = rw (left n i h) (simp (ne-eqb _ _ other))
+
+  pub only-end : n ≤ i → onlyFrom kept (n - i) l i ≡ true
+  unfolding onlyFrom
+  only-end h = rw (over n i h)
+
+-- ---- the lowest bit that is set
+
+module _ (n i ready : ℕ) where
+  pub lowest-more : i < n → (ready % 2 ≡ 1 → ⊥) → lowest (n - i) i ready ≡ lowest (n - (i + 1)) (i + 1) (ready / 2)
+  unfolding lowest
+  lowest-more h other = rw (left n i h, add-one i) (simp (ne-eqb _ _ other))
+
+  pub lowest-stop : i < n → ready % 2 ≡ 1 → lowest (n - i) i ready ≡ i
+  unfolding lowest
+  lowest-stop h same = rw (left n i h) (simp (eq-eqb _ _ same))
+
+  pub lowest-end : n ≤ i → lowest (n - i) i ready ≡ 32
+  unfolding lowest
+  lowest-end h = rw (over n i h)

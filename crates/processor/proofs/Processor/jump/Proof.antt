@@ -1,0 +1,12 @@
+-- `processor::Processor::jump` meets its contract, by its definition.
+use borrow.Author.Needs.{needs}
+use Rattle.processor.specs.Register.{jumped}
+use Rattle.processor.proofs.Processor.jump.Statement.{statement}
+use Rattle.processor.proofs.Processor.jump.Tie as tie
+
+returns : tie.Need-returns
+unfolding jumped
+returns c = search needs
+
+pub jump-spec : {M : Type 1} → statement M
+jump-spec = tie.close (tie.spec returns)

@@ -1,0 +1,18 @@
+-- `processor::Processor::leave` meets its contract, by its definition.
+use borrow.Author.Needs.{needs}
+use Rattle.processor.specs.Exception.{returned}
+use Rattle.processor.proofs.Processor.leave.Statement.{statement}
+use Rattle.processor.proofs.Processor.leave.Tie as tie
+
+array-read-t8 : tie.Need-array-read-t8
+array-read-t8 c = search needs
+
+pop-requires : tie.Need-pop-requires
+pop-requires c κs = search needs
+
+returns : tie.Need-returns
+unfolding returned
+returns c = simp (c .pop .ensures)
+
+pub leave-spec : {M : Type 1} → statement M
+leave-spec = tie.close (tie.spec array-read-t8 pop-requires returns)

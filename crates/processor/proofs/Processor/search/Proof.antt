@@ -1,0 +1,22 @@
+-- `processor::Processor::search` meets its contract, by its definition.
+use borrow.Author.Needs.{needs}
+use Rattle.processor.specs.Tlb.{searched}
+use Rattle.processor.proofs.Processor.search.Statement.{statement}
+use Rattle.processor.proofs.Processor.search.Tie as tie
+
+find-requires : tie.Need-find-requires
+find-requires c κs = search needs
+
+found-index-requires : tie.Need-found-index-requires
+found-index-requires c κs = search needs
+
+with-tlb-registers-requires : tie.Need-with-tlb-registers-requires
+with-tlb-registers-requires c κs = search needs
+
+returns : tie.Need-returns
+unfolding searched
+returns c = simp (c .with-tlb-registers .ensures, c .before .found-index .ensures, c .before .before .find .ensures)
+
+pub search-spec : {M : Type 1} → statement M
+search-spec =
+    tie.close (tie.spec find-requires found-index-requires with-tlb-registers-requires returns)
