@@ -1,0 +1,5 @@
+-- The laws of `instructions`, in the order to read them.
+pub mod Arms
+pub mod Targets
+pub mod Faults
+pub mod Dispatch

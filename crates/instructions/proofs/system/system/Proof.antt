@@ -1,0 +1,72 @@
+-- `instructions::system::system` meets its contract, by the laws of Arms.
+use Prim.Native.Nat.{ℕ}
+use lib.ListN.{getD}
+use borrow.Author.Needs.{needs}
+use Rattle.instructions.specs.System.{illegalS, systems}
+use Rattle.instructions.proofs.Arms.{arm, system-illegal}
+use Rattle.instructions.proofs.system.system.Statement.{statement}
+use Rattle.instructions.proofs.system.system.Tie as tie
+
+privileged-requires : tie.Need-privileged-requires
+privileged-requires c κs = search needs
+
+privileged-requires-2 : tie.Need-privileged-requires-2
+privileged-requires-2 c κs = search needs
+
+privileged-requires-3 : tie.Need-privileged-requires-3
+privileged-requires-3 c κs = search needs
+
+privileged-requires-4 : tie.Need-privileged-requires-4
+privileged-requires-4 c κs = search needs
+
+privileged-requires-5 : tie.Need-privileged-requires-5
+privileged-requires-5 c κs = search needs
+
+privileged-requires-6 : tie.Need-privileged-requires-6
+privileged-requires-6 c κs = search needs
+
+returns : tie.Need-returns
+unfolding systems
+returns c = arm (λ (n : ℕ). getD systems n illegalS (c .before .before .args .psw) (c .before .before .args .y) (c .before .before .args .word)) (c .before .match .keys1) (cc)
+
+returns-2 : tie.Need-returns-2
+unfolding systems
+returns-2 c = arm (λ (n : ℕ). getD systems n illegalS (c .before .before .args .psw) (c .before .before .args .y) (c .before .before .args .word)) (c .before .match .keys2) (cc)
+
+returns-3 : tie.Need-returns-3
+unfolding systems
+returns-3 c = arm (λ (n : ℕ). getD systems n illegalS (c .before .before .args .psw) (c .before .before .args .y) (c .before .before .args .word)) (c .before .match .keys3) (cc)
+
+returns-4 : tie.Need-returns-4
+unfolding systems
+returns-4 c = arm (λ (n : ℕ). getD systems n illegalS (c .before .before .args .psw) (c .before .before .args .y) (c .before .before .args .word)) (c .before .match .keys4) (cc)
+
+returns-5 : tie.Need-returns-5
+unfolding systems
+returns-5 c = arm (λ (n : ℕ). getD systems n illegalS (c .before .before .args .psw) (c .before .before .args .y) (c .before .before .args .word)) (c .before .match .keys5) (cc)
+
+returns-6 : tie.Need-returns-6
+unfolding systems
+returns-6 c = arm (λ (n : ℕ). getD systems n illegalS (c .before .before .args .psw) (c .before .before .args .y) (c .before .before .args .word)) (c .before .match .keys6) (cc)
+
+returns-7 : tie.Need-returns-7
+unfolding systems
+returns-7 c = system-illegal (c .before .args .kind) (c .before .args .psw) (c .before .args .y) (c .before .args .word) (c .match .rest)
+
+pub system-spec : {M : Type 1} → statement M
+system-spec =
+    tie.close
+    (tie.spec
+    privileged-requires
+    privileged-requires-2
+    privileged-requires-3
+    privileged-requires-4
+    privileged-requires-5
+    privileged-requires-6
+    returns
+    returns-2
+    returns-3
+    returns-4
+    returns-5
+    returns-6
+    returns-7)

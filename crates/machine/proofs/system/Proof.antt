@@ -1,0 +1,104 @@
+-- `machine::system` meets its contract, by its definition.
+use Prim.Native.Nat.{ℕ}
+use borrow.Author.Needs.{needs}
+use borrow.Author.Tests.{ne-eqb}
+use Rattle.machine.specs.Step.{systemDone}
+use Rattle.instructions.proofs.Arms.{arm}
+use Rattle.machine.proofs.system.Statement.{statement}
+use Rattle.machine.proofs.system.Tie as tie
+
+add-requires : tie.Need-add-requires
+add-requires c κs = search needs
+
+leave-requires : tie.Need-leave-requires
+leave-requires c κs = search needs
+
+special-requires : tie.Need-special-requires
+special-requires c κs = search needs
+
+write-requires : tie.Need-write-requires
+write-requires c κs = search needs
+
+jump-requires : tie.Need-jump-requires
+jump-requires c κs = search needs
+
+write-special-requires : tie.Need-write-special-requires
+write-special-requires c κs = search needs
+
+jump-requires-2 : tie.Need-jump-requires-2
+jump-requires-2 c κs = search needs
+
+search-requires : tie.Need-search-requires
+search-requires c κs = search needs
+
+jump-requires-3 : tie.Need-jump-requires-3
+jump-requires-3 c κs = search needs
+
+write-random-requires : tie.Need-write-random-requires
+write-random-requires c κs = search needs
+
+jump-requires-4 : tie.Need-jump-requires-4
+jump-requires-4 c κs = search needs
+
+read-indexed-requires : tie.Need-read-indexed-requires
+read-indexed-requires c κs = search needs
+
+jump-requires-5 : tie.Need-jump-requires-5
+jump-requires-5 c κs = search needs
+
+write-indexed-requires : tie.Need-write-indexed-requires
+write-indexed-requires c κs = search needs
+
+returns : tie.Need-returns
+unfolding systemDone
+returns c = arm (λ (n : ℕ). systemDone n (c .before .before .before .args .z) (c .before .before .before .args .v) (c .before .before .before .args .p)) (c .before .match .keys1) (cc)
+
+returns-2 : tie.Need-returns-2
+unfolding systemDone
+returns-2 c = arm (λ (n : ℕ). systemDone n (c .before .before .before .before .args .z) (c .before .before .before .before .args .v) (c .before .before .before .before .args .p)) (c .before .before .match .keys2) (cc)
+
+returns-3 : tie.Need-returns-3
+unfolding systemDone
+returns-3 c = arm (λ (n : ℕ). systemDone n (c .before .before .before .before .args .z) (c .before .before .before .before .args .v) (c .before .before .before .before .args .p)) (c .before .before .match .keys3) (cc)
+
+returns-4 : tie.Need-returns-4
+unfolding systemDone
+returns-4 c = arm (λ (n : ℕ). systemDone n (c .before .before .before .before .args .z) (c .before .before .before .before .args .v) (c .before .before .before .before .args .p)) (c .before .before .match .keys4) (cc)
+
+returns-5 : tie.Need-returns-5
+unfolding systemDone
+returns-5 c = arm (λ (n : ℕ). systemDone n (c .before .before .before .before .args .z) (c .before .before .before .before .args .v) (c .before .before .before .before .args .p)) (c .before .before .match .keys5) (cc)
+
+returns-6 : tie.Need-returns-6
+unfolding systemDone
+returns-6 c = arm (λ (n : ℕ). systemDone n (c .before .before .before .before .args .z) (c .before .before .before .before .args .v) (c .before .before .before .before .args .p)) (c .before .before .match .keys6) (cc)
+
+returns-7 : tie.Need-returns-7
+unfolding systemDone
+returns-7 c = simp (ne-eqb _ _ (c .before .before .match .rest .0 .0 .0 .0 .0 .1), ne-eqb _ _ (c .before .before .match .rest .0 .0 .0 .0 .1), ne-eqb _ _ (c .before .before .match .rest .0 .0 .0 .1), ne-eqb _ _ (c .before .before .match .rest .0 .0 .1), ne-eqb _ _ (c .before .before .match .rest .0 .1), ne-eqb _ _ (c .before .before .match .rest .1)) (cc)
+
+pub system-spec : {M : Type 1} → statement M
+system-spec =
+    tie.close
+    (tie.spec
+    add-requires
+    leave-requires
+    special-requires
+    write-requires
+    jump-requires
+    write-special-requires
+    jump-requires-2
+    search-requires
+    jump-requires-3
+    write-random-requires
+    jump-requires-4
+    read-indexed-requires
+    jump-requires-5
+    write-indexed-requires
+    returns
+    returns-2
+    returns-3
+    returns-4
+    returns-5
+    returns-6
+    returns-7)
