@@ -15,8 +15,11 @@ use Rattle.memory.specs.Access.{storeAnswer, completes}
 use Rattle.memory.specs.declared.Place.{Place}
 use Rattle.memory.specs.declared.Stored.the-variants as stored
 use Rattle.memory.proofs.Outcomes.{answer-at}
-use Rattle.instructions.specs.Transfer.{readThrough, settled, storeThrough}
+use Rattle.instructions.specs.Transfer.{readThrough, readFrom, landed, settled, storeThrough}
+use Rattle.instructions.specs.Operands.{Surroundings}
+use Rattle.instructions.specs.declared.Action.{Action}
 use Rattle.instructions.specs.declared.Action.the-variants.{Store, Exception}
+use Rattle.instructions.specs.declared.transfer.Read.{Read}
 use Rattle.instructions.specs.declared.transfer.Read.the-variants.{Fault}
 
 -- the tag of a variant that is none of the faults
@@ -59,3 +62,11 @@ module _ (width : ℕ) (m : Memory) (value address physical : ℕ) (t : Translat
   pub store-timeout : completes p ≡ stored.Timeout → Exception 16 address 0 ≡ storeThrough width m value address t
   store-timeout out =
       sym (ap (storeThrough width m value address) granted ∙ ap (settled width physical value address) (answer-of ∙ out))
+
+-- ---- a load and a store at the address that the code computed
+
+pub lands : (extend : ℕ → ℕ) (number next width : ℕ) (s : Surroundings) (a b : ℕ) (r : Read) {action : Action}
+    → action ≡ landed extend number a next r → r ≡ readFrom width s a → a ≡ b
+    → action ≡ landed extend number b next (readFrom width s b)
+lands extend number next width s a b r h k e =
+    h ∙ ap (landed extend number a next) k ∙ ap (λ (n : ℕ). landed extend number n next (readFrom width s n)) e

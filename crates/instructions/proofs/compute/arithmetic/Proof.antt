@@ -1,11 +1,15 @@
 -- `instructions::compute::arithmetic` meets its contract, by the laws of Arms.
+use mathlib.Core.Path.{ap, _∙_}
 use Prim.Native.Nat.{ℕ}
 use native.Mathlib.Omega.{arith}
 use lib.ListN.{getD}
 use borrow.Author.Needs.{needs}
 use Rattle.instructions.specs.Compute.{computations}
+use Rattle.instructions.specs.Compute.{unlessZero, computations}
 use Rattle.instructions.specs.Operands.{operands, illegal}
+use Rattle.instructions.specs.Operands.{operands, intoR, intoY, illegal}
 use Rattle.instructions.proofs.Arms.{arm, beyond}
+use Rattle.words.specs.Computation.{sum, difference, signedProduct, unsignedProduct, signedQuotient, unsignedQuotient, signedRemainder, unsignedRemainder}
 use Rattle.instructions.proofs.compute.arithmetic.Statement.{statement}
 use Rattle.instructions.proofs.compute.arithmetic.Tie as tie
 
@@ -68,67 +72,67 @@ logic-requires c κs = beyond (c .before .before .before .args .opcode) 0 16 (om
 
 returns : tie.Need-returns
 unfolding computations
-returns c = arm (λ (n : ℕ). getD computations n illegal (operands (c .before .before .before .before .args .x) (c .before .before .before .before .args .y) (c .before .before .before .before .args .word) (c .before .before .before .before .args .next))) (c .before .match .keys1) (cc)
+returns c = arm (λ (n : ℕ). getD computations n illegal (operands (c .before .before .before .before .args .x) (c .before .before .before .before .args .y) (c .before .before .before .before .args .word) (c .before .before .before .before .args .next))) (c .before .match .keys1) (ap (intoR (operands (c .before .before .before .before .args .x) (c .before .before .before .before .args .y) (c .before .before .before .before .args .word) (c .before .before .before .before .args .next))) (c .add .ensures))
 
 returns-2 : tie.Need-returns-2
 unfolding computations
-returns-2 c = arm (λ (n : ℕ). getD computations n illegal (operands (c .before .before .before .before .args .x) (c .before .before .before .before .args .y) (c .before .before .before .before .args .word) (c .before .before .before .before .args .next))) (c .before .match .keys2) (cc)
+returns-2 c = arm (λ (n : ℕ). getD computations n illegal (operands (c .before .before .before .before .args .x) (c .before .before .before .before .args .y) (c .before .before .before .before .args .word) (c .before .before .before .before .args .next))) (c .before .match .keys2) (ap (intoY (operands (c .before .before .before .before .args .x) (c .before .before .before .before .args .y) (c .before .before .before .before .args .word) (c .before .before .before .before .args .next))) (c .add2 .ensures ∙ ap (sum (c .before .before .before .before .args .x)) (c .before .before .before .sign-extend-16 .ensures)))
 
 returns-3 : tie.Need-returns-3
 unfolding computations
-returns-3 c = arm (λ (n : ℕ). getD computations n illegal (operands (c .before .before .before .before .args .x) (c .before .before .before .before .args .y) (c .before .before .before .before .args .word) (c .before .before .before .before .args .next))) (c .before .match .keys3) (cc)
+returns-3 c = arm (λ (n : ℕ). getD computations n illegal (operands (c .before .before .before .before .args .x) (c .before .before .before .before .args .y) (c .before .before .before .before .args .word) (c .before .before .before .before .args .next))) (c .before .match .keys3) (ap (intoR (operands (c .before .before .before .before .args .x) (c .before .before .before .before .args .y) (c .before .before .before .before .args .word) (c .before .before .before .before .args .next))) (c .subtract .ensures))
 
 returns-4 : tie.Need-returns-4
 unfolding computations
-returns-4 c = arm (λ (n : ℕ). getD computations n illegal (operands (c .before .before .before .before .args .x) (c .before .before .before .before .args .y) (c .before .before .before .before .args .word) (c .before .before .before .before .args .next))) (c .before .match .keys4) (cc)
+returns-4 c = arm (λ (n : ℕ). getD computations n illegal (operands (c .before .before .before .before .args .x) (c .before .before .before .before .args .y) (c .before .before .before .before .args .word) (c .before .before .before .before .args .next))) (c .before .match .keys4) (ap (intoY (operands (c .before .before .before .before .args .x) (c .before .before .before .before .args .y) (c .before .before .before .before .args .word) (c .before .before .before .before .args .next))) (c .subtract2 .ensures ∙ ap (difference (c .before .before .before .before .args .x)) (c .before .before .before .sign-extend-16 .ensures)))
 
 returns-5 : tie.Need-returns-5
 unfolding computations
-returns-5 c = arm (λ (n : ℕ). getD computations n illegal (operands (c .before .before .before .before .args .x) (c .before .before .before .before .args .y) (c .before .before .before .before .args .word) (c .before .before .before .before .args .next))) (c .before .match .keys5) (cc)
+returns-5 c = arm (λ (n : ℕ). getD computations n illegal (operands (c .before .before .before .before .args .x) (c .before .before .before .before .args .y) (c .before .before .before .before .args .word) (c .before .before .before .before .args .next))) (c .before .match .keys5) (ap (intoR (operands (c .before .before .before .before .args .x) (c .before .before .before .before .args .y) (c .before .before .before .before .args .word) (c .before .before .before .before .args .next))) (c .multiply .ensures .1))
 
 returns-6 : tie.Need-returns-6
 unfolding computations
-returns-6 c = arm (λ (n : ℕ). getD computations n illegal (operands (c .before .before .before .before .args .x) (c .before .before .before .before .args .y) (c .before .before .before .before .args .word) (c .before .before .before .before .args .next))) (c .before .match .keys6) (cc)
+returns-6 c = arm (λ (n : ℕ). getD computations n illegal (operands (c .before .before .before .before .args .x) (c .before .before .before .before .args .y) (c .before .before .before .before .args .word) (c .before .before .before .before .args .next))) (c .before .match .keys6) (ap (intoY (operands (c .before .before .before .before .args .x) (c .before .before .before .before .args .y) (c .before .before .before .before .args .word) (c .before .before .before .before .args .next))) (c .multiply2 .ensures .1 ∙ ap (signedProduct (c .before .before .before .before .args .x)) (c .before .before .before .sign-extend-16 .ensures)))
 
 returns-7 : tie.Need-returns-7
 unfolding computations
-returns-7 c = arm (λ (n : ℕ). getD computations n illegal (operands (c .before .before .before .before .args .x) (c .before .before .before .before .args .y) (c .before .before .before .before .args .word) (c .before .before .before .before .args .next))) (c .before .match .keys7) (cc)
+returns-7 c = arm (λ (n : ℕ). getD computations n illegal (operands (c .before .before .before .before .args .x) (c .before .before .before .before .args .y) (c .before .before .before .before .args .word) (c .before .before .before .before .args .next))) (c .before .match .keys7) (ap (intoR (operands (c .before .before .before .before .args .x) (c .before .before .before .before .args .y) (c .before .before .before .before .args .word) (c .before .before .before .before .args .next))) (c .multiply3 .ensures .0))
 
 returns-8 : tie.Need-returns-8
 unfolding computations
-returns-8 c = arm (λ (n : ℕ). getD computations n illegal (operands (c .before .before .before .before .args .x) (c .before .before .before .before .args .y) (c .before .before .before .before .args .word) (c .before .before .before .before .args .next))) (c .before .match .keys8) (cc)
+returns-8 c = arm (λ (n : ℕ). getD computations n illegal (operands (c .before .before .before .before .args .x) (c .before .before .before .before .args .y) (c .before .before .before .before .args .word) (c .before .before .before .before .args .next))) (c .before .match .keys8) (ap (intoY (operands (c .before .before .before .before .args .x) (c .before .before .before .before .args .y) (c .before .before .before .before .args .word) (c .before .before .before .before .args .next))) (c .multiply4 .ensures .0 ∙ ap (unsignedProduct (c .before .before .before .before .args .x)) (c .before .before .zero-extend-16 .ensures)))
 
 returns-9 : tie.Need-returns-9
 unfolding computations
-returns-9 c = arm (λ (n : ℕ). getD computations n illegal (operands (c .before .before .before .before .args .x) (c .before .before .before .before .args .y) (c .before .before .before .before .args .word) (c .before .before .before .before .args .next))) (c .before .match .keys9) (cc)
+returns-9 c = arm (λ (n : ℕ). getD computations n illegal (operands (c .before .before .before .before .args .x) (c .before .before .before .before .args .y) (c .before .before .before .before .args .word) (c .before .before .before .before .args .next))) (c .before .match .keys9) (c .quotient-signed .ensures)
 
 returns-10 : tie.Need-returns-10
 unfolding computations
-returns-10 c = arm (λ (n : ℕ). getD computations n illegal (operands (c .before .before .before .before .args .x) (c .before .before .before .before .args .y) (c .before .before .before .before .args .word) (c .before .before .before .before .args .next))) (c .before .match .keys10) (cc)
+returns-10 c = arm (λ (n : ℕ). getD computations n illegal (operands (c .before .before .before .before .args .x) (c .before .before .before .before .args .y) (c .before .before .before .before .args .word) (c .before .before .before .before .args .next))) (c .before .match .keys10) (c .quotient-signed2 .ensures ∙ ap (λ (i : ℕ). unlessZero i (intoY (operands (c .before .before .before .before .args .x) (c .before .before .before .before .args .y) (c .before .before .before .before .args .word) (c .before .before .before .before .args .next)) (signedQuotient (c .before .before .before .before .args .x) i))) (c .before .before .before .sign-extend-16 .ensures))
 
 returns-11 : tie.Need-returns-11
 unfolding computations
-returns-11 c = arm (λ (n : ℕ). getD computations n illegal (operands (c .before .before .before .before .args .x) (c .before .before .before .before .args .y) (c .before .before .before .before .args .word) (c .before .before .before .before .args .next))) (c .before .match .keys11) (cc)
+returns-11 c = arm (λ (n : ℕ). getD computations n illegal (operands (c .before .before .before .before .args .x) (c .before .before .before .before .args .y) (c .before .before .before .before .args .word) (c .before .before .before .before .args .next))) (c .before .match .keys11) (c .quotient-unsigned .ensures)
 
 returns-12 : tie.Need-returns-12
 unfolding computations
-returns-12 c = arm (λ (n : ℕ). getD computations n illegal (operands (c .before .before .before .before .args .x) (c .before .before .before .before .args .y) (c .before .before .before .before .args .word) (c .before .before .before .before .args .next))) (c .before .match .keys12) (cc)
+returns-12 c = arm (λ (n : ℕ). getD computations n illegal (operands (c .before .before .before .before .args .x) (c .before .before .before .before .args .y) (c .before .before .before .before .args .word) (c .before .before .before .before .args .next))) (c .before .match .keys12) (c .quotient-unsigned2 .ensures ∙ ap (λ (i : ℕ). unlessZero i (intoY (operands (c .before .before .before .before .args .x) (c .before .before .before .before .args .y) (c .before .before .before .before .args .word) (c .before .before .before .before .args .next)) (unsignedQuotient (c .before .before .before .before .args .x) i))) (c .before .before .zero-extend-16 .ensures))
 
 returns-13 : tie.Need-returns-13
 unfolding computations
-returns-13 c = arm (λ (n : ℕ). getD computations n illegal (operands (c .before .before .before .before .args .x) (c .before .before .before .before .args .y) (c .before .before .before .before .args .word) (c .before .before .before .before .args .next))) (c .before .match .keys13) (cc)
+returns-13 c = arm (λ (n : ℕ). getD computations n illegal (operands (c .before .before .before .before .args .x) (c .before .before .before .before .args .y) (c .before .before .before .before .args .word) (c .before .before .before .before .args .next))) (c .before .match .keys13) (c .remaining-signed .ensures)
 
 returns-14 : tie.Need-returns-14
 unfolding computations
-returns-14 c = arm (λ (n : ℕ). getD computations n illegal (operands (c .before .before .before .before .args .x) (c .before .before .before .before .args .y) (c .before .before .before .before .args .word) (c .before .before .before .before .args .next))) (c .before .match .keys14) (cc)
+returns-14 c = arm (λ (n : ℕ). getD computations n illegal (operands (c .before .before .before .before .args .x) (c .before .before .before .before .args .y) (c .before .before .before .before .args .word) (c .before .before .before .before .args .next))) (c .before .match .keys14) (c .remaining-signed2 .ensures ∙ ap (λ (i : ℕ). unlessZero i (intoY (operands (c .before .before .before .before .args .x) (c .before .before .before .before .args .y) (c .before .before .before .before .args .word) (c .before .before .before .before .args .next)) (signedRemainder (c .before .before .before .before .args .x) i))) (c .before .before .before .sign-extend-16 .ensures))
 
 returns-15 : tie.Need-returns-15
 unfolding computations
-returns-15 c = arm (λ (n : ℕ). getD computations n illegal (operands (c .before .before .before .before .args .x) (c .before .before .before .before .args .y) (c .before .before .before .before .args .word) (c .before .before .before .before .args .next))) (c .before .match .keys15) (cc)
+returns-15 c = arm (λ (n : ℕ). getD computations n illegal (operands (c .before .before .before .before .args .x) (c .before .before .before .before .args .y) (c .before .before .before .before .args .word) (c .before .before .before .before .args .next))) (c .before .match .keys15) (c .remaining-unsigned .ensures)
 
 returns-16 : tie.Need-returns-16
 unfolding computations
-returns-16 c = arm (λ (n : ℕ). getD computations n illegal (operands (c .before .before .before .before .args .x) (c .before .before .before .before .args .y) (c .before .before .before .before .args .word) (c .before .before .before .before .args .next))) (c .before .match .keys16) (cc)
+returns-16 c = arm (λ (n : ℕ). getD computations n illegal (operands (c .before .before .before .before .args .x) (c .before .before .before .before .args .y) (c .before .before .before .before .args .word) (c .before .before .before .before .args .next))) (c .before .match .keys16) (c .remaining-unsigned2 .ensures ∙ ap (λ (i : ℕ). unlessZero i (intoY (operands (c .before .before .before .before .args .x) (c .before .before .before .before .args .y) (c .before .before .before .before .args .word) (c .before .before .before .before .args .next)) (unsignedRemainder (c .before .before .before .before .args .x) i))) (c .before .before .zero-extend-16 .ensures))
 
 returns-17 : tie.Need-returns-17
 unfolding computations

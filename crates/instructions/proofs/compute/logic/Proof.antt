@@ -1,10 +1,13 @@
 -- `instructions::compute::logic` meets its contract, by the laws of Arms.
+use mathlib.Core.Path.{ap, _∙_}
 use Prim.Native.Nat.{ℕ}
 use lib.ListN.{getD}
 use borrow.Author.Needs.{needs}
 use Rattle.instructions.specs.Compute.{computations}
 use Rattle.instructions.specs.Operands.{operands, illegal}
+use Rattle.instructions.specs.Operands.{operands, intoR, intoY, illegal}
 use Rattle.instructions.proofs.Arms.{arm, computation-illegal}
+use Rattle.words.specs.Computation.{and, or, xor, xnor, shiftLeft, shiftRight, shiftArithmetic}
 use Rattle.instructions.proofs.compute.logic.Statement.{statement}
 use Rattle.instructions.proofs.compute.logic.Tie as tie
 
@@ -58,63 +61,63 @@ load-high-requires c κs = search needs
 
 returns : tie.Need-returns
 unfolding computations
-returns c = arm (λ (n : ℕ). getD computations n illegal (operands (c .before .before .before .args .x) (c .before .before .before .args .y) (c .before .before .before .args .word) (c .before .before .before .args .next))) (c .before .match .keys1) (cc)
+returns c = arm (λ (n : ℕ). getD computations n illegal (operands (c .before .before .before .args .x) (c .before .before .before .args .y) (c .before .before .before .args .word) (c .before .before .before .args .next))) (c .before .match .keys1) (ap (intoR (operands (c .before .before .before .args .x) (c .before .before .before .args .y) (c .before .before .before .args .word) (c .before .before .before .args .next))) (c .and .ensures))
 
 returns-2 : tie.Need-returns-2
 unfolding computations
-returns-2 c = arm (λ (n : ℕ). getD computations n illegal (operands (c .before .before .before .args .x) (c .before .before .before .args .y) (c .before .before .before .args .word) (c .before .before .before .args .next))) (c .before .match .keys2) (cc)
+returns-2 c = arm (λ (n : ℕ). getD computations n illegal (operands (c .before .before .before .args .x) (c .before .before .before .args .y) (c .before .before .before .args .word) (c .before .before .before .args .next))) (c .before .match .keys2) (ap (intoY (operands (c .before .before .before .args .x) (c .before .before .before .args .y) (c .before .before .before .args .word) (c .before .before .before .args .next))) (c .and2 .ensures ∙ ap (and (c .before .before .before .args .x)) (c .before .before .zero-extend-16 .ensures)))
 
 returns-3 : tie.Need-returns-3
 unfolding computations
-returns-3 c = arm (λ (n : ℕ). getD computations n illegal (operands (c .before .before .before .args .x) (c .before .before .before .args .y) (c .before .before .before .args .word) (c .before .before .before .args .next))) (c .before .match .keys3) (cc)
+returns-3 c = arm (λ (n : ℕ). getD computations n illegal (operands (c .before .before .before .args .x) (c .before .before .before .args .y) (c .before .before .before .args .word) (c .before .before .before .args .next))) (c .before .match .keys3) (ap (intoR (operands (c .before .before .before .args .x) (c .before .before .before .args .y) (c .before .before .before .args .word) (c .before .before .before .args .next))) (c .or .ensures))
 
 returns-4 : tie.Need-returns-4
 unfolding computations
-returns-4 c = arm (λ (n : ℕ). getD computations n illegal (operands (c .before .before .before .args .x) (c .before .before .before .args .y) (c .before .before .before .args .word) (c .before .before .before .args .next))) (c .before .match .keys4) (cc)
+returns-4 c = arm (λ (n : ℕ). getD computations n illegal (operands (c .before .before .before .args .x) (c .before .before .before .args .y) (c .before .before .before .args .word) (c .before .before .before .args .next))) (c .before .match .keys4) (ap (intoY (operands (c .before .before .before .args .x) (c .before .before .before .args .y) (c .before .before .before .args .word) (c .before .before .before .args .next))) (c .or2 .ensures ∙ ap (or (c .before .before .before .args .x)) (c .before .before .zero-extend-16 .ensures)))
 
 returns-5 : tie.Need-returns-5
 unfolding computations
-returns-5 c = arm (λ (n : ℕ). getD computations n illegal (operands (c .before .before .before .args .x) (c .before .before .before .args .y) (c .before .before .before .args .word) (c .before .before .before .args .next))) (c .before .match .keys5) (cc)
+returns-5 c = arm (λ (n : ℕ). getD computations n illegal (operands (c .before .before .before .args .x) (c .before .before .before .args .y) (c .before .before .before .args .word) (c .before .before .before .args .next))) (c .before .match .keys5) (ap (intoR (operands (c .before .before .before .args .x) (c .before .before .before .args .y) (c .before .before .before .args .word) (c .before .before .before .args .next))) (c .xor .ensures))
 
 returns-6 : tie.Need-returns-6
 unfolding computations
-returns-6 c = arm (λ (n : ℕ). getD computations n illegal (operands (c .before .before .before .args .x) (c .before .before .before .args .y) (c .before .before .before .args .word) (c .before .before .before .args .next))) (c .before .match .keys6) (cc)
+returns-6 c = arm (λ (n : ℕ). getD computations n illegal (operands (c .before .before .before .args .x) (c .before .before .before .args .y) (c .before .before .before .args .word) (c .before .before .before .args .next))) (c .before .match .keys6) (ap (intoY (operands (c .before .before .before .args .x) (c .before .before .before .args .y) (c .before .before .before .args .word) (c .before .before .before .args .next))) (c .xor2 .ensures ∙ ap (xor (c .before .before .before .args .x)) (c .before .before .zero-extend-16 .ensures)))
 
 returns-7 : tie.Need-returns-7
 unfolding computations
-returns-7 c = arm (λ (n : ℕ). getD computations n illegal (operands (c .before .before .before .args .x) (c .before .before .before .args .y) (c .before .before .before .args .word) (c .before .before .before .args .next))) (c .before .match .keys7) (cc)
+returns-7 c = arm (λ (n : ℕ). getD computations n illegal (operands (c .before .before .before .args .x) (c .before .before .before .args .y) (c .before .before .before .args .word) (c .before .before .before .args .next))) (c .before .match .keys7) (ap (intoR (operands (c .before .before .before .args .x) (c .before .before .before .args .y) (c .before .before .before .args .word) (c .before .before .before .args .next))) (c .xnor .ensures))
 
 returns-8 : tie.Need-returns-8
 unfolding computations
-returns-8 c = arm (λ (n : ℕ). getD computations n illegal (operands (c .before .before .before .args .x) (c .before .before .before .args .y) (c .before .before .before .args .word) (c .before .before .before .args .next))) (c .before .match .keys8) (cc)
+returns-8 c = arm (λ (n : ℕ). getD computations n illegal (operands (c .before .before .before .args .x) (c .before .before .before .args .y) (c .before .before .before .args .word) (c .before .before .before .args .next))) (c .before .match .keys8) (ap (intoY (operands (c .before .before .before .args .x) (c .before .before .before .args .y) (c .before .before .before .args .word) (c .before .before .before .args .next))) (c .xnor2 .ensures ∙ ap (xnor (c .before .before .before .args .x)) (c .before .before .zero-extend-16 .ensures)))
 
 returns-9 : tie.Need-returns-9
 unfolding computations
-returns-9 c = arm (λ (n : ℕ). getD computations n illegal (operands (c .before .before .before .args .x) (c .before .before .before .args .y) (c .before .before .before .args .word) (c .before .before .before .args .next))) (c .before .match .keys9) (cc)
+returns-9 c = arm (λ (n : ℕ). getD computations n illegal (operands (c .before .before .before .args .x) (c .before .before .before .args .y) (c .before .before .before .args .word) (c .before .before .before .args .next))) (c .before .match .keys9) (ap (intoR (operands (c .before .before .before .args .x) (c .before .before .before .args .y) (c .before .before .before .args .word) (c .before .before .before .args .next))) (c .shift-left .ensures))
 
 returns-10 : tie.Need-returns-10
 unfolding computations
-returns-10 c = arm (λ (n : ℕ). getD computations n illegal (operands (c .before .before .before .args .x) (c .before .before .before .args .y) (c .before .before .before .args .word) (c .before .before .before .args .next))) (c .before .match .keys10) (cc)
+returns-10 c = arm (λ (n : ℕ). getD computations n illegal (operands (c .before .before .before .args .x) (c .before .before .before .args .y) (c .before .before .before .args .word) (c .before .before .before .args .next))) (c .before .match .keys10) (ap (intoY (operands (c .before .before .before .args .x) (c .before .before .before .args .y) (c .before .before .before .args .word) (c .before .before .before .args .next))) (c .shift-left2 .ensures ∙ ap (shiftLeft (c .before .before .before .args .x)) (c .before .before .zero-extend-16 .ensures)))
 
 returns-11 : tie.Need-returns-11
 unfolding computations
-returns-11 c = arm (λ (n : ℕ). getD computations n illegal (operands (c .before .before .before .args .x) (c .before .before .before .args .y) (c .before .before .before .args .word) (c .before .before .before .args .next))) (c .before .match .keys11) (cc)
+returns-11 c = arm (λ (n : ℕ). getD computations n illegal (operands (c .before .before .before .args .x) (c .before .before .before .args .y) (c .before .before .before .args .word) (c .before .before .before .args .next))) (c .before .match .keys11) (ap (intoR (operands (c .before .before .before .args .x) (c .before .before .before .args .y) (c .before .before .before .args .word) (c .before .before .before .args .next))) (c .shift-right .ensures))
 
 returns-12 : tie.Need-returns-12
 unfolding computations
-returns-12 c = arm (λ (n : ℕ). getD computations n illegal (operands (c .before .before .before .args .x) (c .before .before .before .args .y) (c .before .before .before .args .word) (c .before .before .before .args .next))) (c .before .match .keys12) (cc)
+returns-12 c = arm (λ (n : ℕ). getD computations n illegal (operands (c .before .before .before .args .x) (c .before .before .before .args .y) (c .before .before .before .args .word) (c .before .before .before .args .next))) (c .before .match .keys12) (ap (intoY (operands (c .before .before .before .args .x) (c .before .before .before .args .y) (c .before .before .before .args .word) (c .before .before .before .args .next))) (c .shift-right2 .ensures ∙ ap (shiftRight (c .before .before .before .args .x)) (c .before .before .zero-extend-16 .ensures)))
 
 returns-13 : tie.Need-returns-13
 unfolding computations
-returns-13 c = arm (λ (n : ℕ). getD computations n illegal (operands (c .before .before .before .args .x) (c .before .before .before .args .y) (c .before .before .before .args .word) (c .before .before .before .args .next))) (c .before .match .keys13) (cc)
+returns-13 c = arm (λ (n : ℕ). getD computations n illegal (operands (c .before .before .before .args .x) (c .before .before .before .args .y) (c .before .before .before .args .word) (c .before .before .before .args .next))) (c .before .match .keys13) (ap (intoR (operands (c .before .before .before .args .x) (c .before .before .before .args .y) (c .before .before .before .args .word) (c .before .before .before .args .next))) (c .shift-arithmetic .ensures))
 
 returns-14 : tie.Need-returns-14
 unfolding computations
-returns-14 c = arm (λ (n : ℕ). getD computations n illegal (operands (c .before .before .before .args .x) (c .before .before .before .args .y) (c .before .before .before .args .word) (c .before .before .before .args .next))) (c .before .match .keys14) (cc)
+returns-14 c = arm (λ (n : ℕ). getD computations n illegal (operands (c .before .before .before .args .x) (c .before .before .before .args .y) (c .before .before .before .args .word) (c .before .before .before .args .next))) (c .before .match .keys14) (ap (intoY (operands (c .before .before .before .args .x) (c .before .before .before .args .y) (c .before .before .before .args .word) (c .before .before .before .args .next))) (c .shift-arithmetic2 .ensures ∙ ap (shiftArithmetic (c .before .before .before .args .x)) (c .before .before .zero-extend-16 .ensures)))
 
 returns-15 : tie.Need-returns-15
 unfolding computations
-returns-15 c = arm (λ (n : ℕ). getD computations n illegal (operands (c .before .before .before .args .x) (c .before .before .before .args .y) (c .before .before .before .args .word) (c .before .before .before .args .next))) (c .before .match .keys15) (cc)
+returns-15 c = arm (λ (n : ℕ). getD computations n illegal (operands (c .before .before .before .args .x) (c .before .before .before .args .y) (c .before .before .before .args .word) (c .before .before .before .args .next))) (c .before .match .keys15) (ap (intoY (operands (c .before .before .before .args .x) (c .before .before .before .args .y) (c .before .before .before .args .word) (c .before .before .before .args .next))) (c .load-high .ensures))
 
 returns-16 : tie.Need-returns-16
 unfolding computations
