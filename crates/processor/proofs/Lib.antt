@@ -7,4 +7,3 @@ pub mod FitKept
 pub mod Lowest
 pub mod Granted
 pub mod Ready
-pub mod StarredCases

@@ -1,0 +1,201 @@
+-- Where the PC goes: a completed instruction goes on from its fetch, but for control flow and RFX.
+use mathlib.Core.Path.{_≡_, refl}
+use mathlib.Core.Bool.{Bool, true, false, cond}
+use mathlib.Core.List.{List, [], _∷_}
+use Prim.Native.Nat.{ℕ, zero, suc}
+use lib.Dec.{eqb}
+use lib.ListN.{getD}
+use borrow.Author.Tests.{ne-eqb}
+use Rattle.words.specs.Computation.{sum}
+use Rattle.processor.specs.declared.Processor.{Processor}
+use Rattle.processor.specs.Exception.{returned}
+use Rattle.processor.specs.Register.{written, jumped, special, specialWritten}
+use Rattle.processor.specs.Tlb.{entryWritten, indexedWritten, randomWritten, entryRead, searched}
+use Rattle.instructions.specs.Operands.{Surroundings, Operands, Simple, illegal, fieldY}
+use Rattle.instructions.specs.Compute.{unlessZero, computations}
+use Rattle.instructions.specs.Transfer.{readFrom, addressOf, landed, load}
+use Rattle.instructions.specs.declared.transfer.Read.{Read}
+use Rattle.instructions.specs.declared.transfer.Read.the-variants.{Value, Fault}
+use Rattle.instructions.specs.declared.Action.{Action}
+use Rattle.instructions.specs.declared.Action.the-variants.{Write, Store, System, Exception}
+use Rattle.machine.specs.Step.{systemDone, processorAfter}
+
+-- ---- the PC of a completed computation is that after the fetch
+
+-- a register write that goes on to the next instruction, or an exception
+abbrev GoesOn : Operands → Action → Type 0
+GoesOn o (Write n v next) = next ≡ o .next
+GoesOn o (Store width physical v) = ⊥
+GoesOn o (System opcode z v) = ⊥
+GoesOn o (Exception eid address unused) = Unit {0}
+
+abbrev Every : (Simple → Type 0) → List Simple → Type 0
+Every P [] = Unit {0}
+Every P (f ∷ fs) = P f × Every P fs
+
+every-at : (P : Simple → Type 0) (l : List Simple) (n : ℕ) → Every P l → P illegal → P (getD l n illegal)
+every-at P [] n h i = i
+every-at P (f ∷ fs) zero h i = h .0
+every-at P (f ∷ fs) (suc n) h i = every-at P fs n (h .1) i
+
+unless-goes-on : (o : Operands) (divisor : ℕ) (a : Action) → GoesOn o a → GoesOn o (unlessZero divisor a)
+unfolding unlessZero
+unless-goes-on o divisor a h = go (eqb divisor 0)
+  where
+    go : (t : Bool) → GoesOn o (cond t (Exception 19 0 0) a)
+    go true = tt
+    go false = h
+
+abbrev Goes : Simple → Type 0
+Goes f = (o : Operands) → GoesOn o (f o)
+
+every-computation : Every Goes computations
+unfolding computations
+every-computation = (
+  λ o. refl,
+  (
+    λ o. refl,
+    (
+      λ o. refl,
+      (
+        λ o. refl,
+        (
+          λ o. refl,
+          (
+            λ o. refl,
+            (
+              λ o. refl,
+              (
+                λ o. refl,
+                (
+                  λ o. unless-goes-on o _ _ refl,
+                  (
+                    λ o. unless-goes-on o _ _ refl,
+                    (
+                      λ o. unless-goes-on o _ _ refl,
+                      (
+                        λ o. unless-goes-on o _ _ refl,
+                        (
+                          λ o. unless-goes-on o _ _ refl,
+                          (
+                            λ o. unless-goes-on o _ _ refl,
+                            (
+                              λ o. unless-goes-on o _ _ refl,
+                              (
+                                λ o. unless-goes-on o _ _ refl,
+                                (
+                                  λ o. refl,
+                                  (
+                                    λ o. refl,
+                                    (
+                                      λ o. refl,
+                                      (
+                                        λ o. refl,
+                                        (
+                                          λ o. refl,
+                                          (
+                                            λ o. refl,
+                                            (
+                                              λ o. refl,
+                                              (
+                                                λ o. refl,
+                                                (
+                                                  λ o. refl,
+                                                  (
+                                                    λ o. refl,
+                                                    (
+                                                      λ o. refl,
+                                                      (
+                                                        λ o. refl,
+                                                        (
+                                                          λ o. refl,
+                                                          (
+                                                            λ o. refl,
+                                                            (
+                                                              λ o. tt,
+                                                              (
+                                                                λ o. refl,
+                                                                tt,
+                                                              ),
+                                                            ),
+                                                          ),
+                                                        ),
+                                                      ),
+                                                    ),
+                                                  ),
+                                                ),
+                                              ),
+                                            ),
+                                          ),
+                                        ),
+                                      ),
+                                    ),
+                                  ),
+                                ),
+                              ),
+                            ),
+                          ),
+                        ),
+                      ),
+                    ),
+                  ),
+                ),
+              ),
+            ),
+          ),
+        ),
+      ),
+    ),
+  ),
+)
+
+pub computation-goes-on : (opcode : ℕ) (o : Operands) → GoesOn o (getD computations opcode illegal o)
+computation-goes-on opcode o = every-at Goes computations opcode every-computation (λ o. tt) o
+
+-- so does a load that completes
+landed-goes-on : (extend : ℕ → ℕ) (o : Operands) (r : Read) → GoesOn o (landed extend (fieldY (o .word)) (addressOf o) (o .next) r)
+landed-goes-on extend o (Value v) = refl
+landed-goes-on extend o (Fault eid) = tt
+
+pub load-goes-on : (width : ℕ) (extend : ℕ → ℕ) (s : Surroundings) (o : Operands) → GoesOn o (load width extend s o)
+unfolding load
+load-goes-on width extend s o = landed-goes-on extend o (readFrom width s (addressOf o))
+
+-- a store that completes, and a system instruction but RFX, go on from the fetched instruction's PC; RFX goes to R30
+pub store-goes-on : (p : Processor) (width physical v : ℕ) → processorAfter p (Store width physical v) .pc ≡ sum (p .pc) 4
+unfolding jumped
+store-goes-on p width physical v = refl
+
+-- as a record, so that the processor can be read off it
+record PcIs (q : ℕ) (p : Processor) : Type 0 where
+  is : p .pc ≡ q
+
+pub chosen : (P : Processor → Type 0) (t : Bool) {x y : Processor} → P x → P y → P (cond t x y)
+chosen P true h k = h
+chosen P false h k = k
+
+pub system-goes-on : (p : Processor) (opcode z v : ℕ) → (opcode ≡ 0x2F → ⊥) → systemDone opcode z v p .pc ≡ sum (p .pc) 4
+unfolding systemDone written jumped specialWritten searched randomWritten indexedWritten entryWritten entryRead
+system-goes-on p opcode z v other = rw (ne-eqb opcode 0x2F other) (rest .is)
+  where
+    q : ℕ
+    q = sum (p .pc) 4
+
+    j : Processor
+    j = jumped p q
+
+    rest : PcIs q
+        (cond (eqb opcode 0x38) (written p v (special p z) q)
+        (cond (eqb opcode 0x39) (specialWritten j z v)
+        (cond (eqb opcode 0x3A) (searched j)
+        (cond (eqb opcode 0x3B) (randomWritten j) (cond (eqb opcode 0x3C) (entryRead j) (indexedWritten j))))))
+    rest =
+        chosen (PcIs q) (eqb opcode 0x38) (record { is = refl })
+        (chosen (PcIs q) (eqb opcode 0x39) (record { is = refl })
+        (chosen (PcIs q) (eqb opcode 0x3A) (record { is = refl })
+        (chosen (PcIs q) (eqb opcode 0x3B) (record { is = refl })
+        (chosen (PcIs q) (eqb opcode 0x3C) (record { is = refl }) (record { is = refl })))))
+
+pub return-goes-back : (p : Processor) (z v : ℕ) → systemDone 0x2F z v p .pc ≡ getD (p .registers) 30 0
+unfolding systemDone returned
+return-goes-back p z v = refl
