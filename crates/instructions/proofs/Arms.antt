@@ -11,7 +11,7 @@ use Rattle.instructions.specs.Operands.{Operands, Surroundings, Simple, 
 use Rattle.instructions.specs.Compute.{computations}
 use Rattle.instructions.specs.Control.{controls}
 use Rattle.instructions.specs.Transfer.{extensions, transfers}
-use Rattle.instructions.specs.System.{Privileged, illegalS, traps, systems}
+use Rattle.instructions.specs.System.{SystemMeaning, illegalSystem, traps, systems}
 use Rattle.instructions.specs.declared.Action.{Action}
 
 -- an arm for one number
@@ -62,14 +62,14 @@ transfer-illegal kind s o none =
     let far : 8 ≤ kind = beyond kind 0 8 (omega arith) none in
     ap (λ (f : Meaning). f s o) (sym (List·getD-eq-default transfers (simple illegal) {n = kind} far))
 
-pub trap-illegal : (kind psw y word : ℕ) → Nots kind 0 2 → illegalS psw y word ≡ getD traps kind illegalS psw y word
+pub trap-illegal : (kind psw y word : ℕ) → Nots kind 0 2 → illegalSystem psw y word ≡ getD traps kind illegalSystem psw y word
 unfolding traps
 trap-illegal kind psw y word none =
     let far : 2 ≤ kind = beyond kind 0 2 (omega arith) none in
-    ap (λ (f : Privileged). f psw y word) (sym (List·getD-eq-default traps illegalS {n = kind} far))
+    ap (λ (f : SystemMeaning). f psw y word) (sym (List·getD-eq-default traps illegalSystem {n = kind} far))
 
-pub system-illegal : (kind psw y word : ℕ) → Nots kind 0 6 → illegalS psw y word ≡ getD systems kind illegalS psw y word
+pub system-illegal : (kind psw y word : ℕ) → Nots kind 0 6 → illegalSystem psw y word ≡ getD systems kind illegalSystem psw y word
 unfolding systems
 system-illegal kind psw y word none =
     let far : 6 ≤ kind = beyond kind 0 6 (omega arith) none in
-    ap (λ (f : Privileged). f psw y word) (sym (List·getD-eq-default systems illegalS {n = kind} far))
+    ap (λ (f : SystemMeaning). f psw y word) (sym (List·getD-eq-default systems illegalSystem {n = kind} far))

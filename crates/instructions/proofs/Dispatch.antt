@@ -9,7 +9,7 @@ use Rattle.instructions.specs.Operands.{Simple, Meaning, Surroundings, O
 use Rattle.instructions.specs.Compute.{computations}
 use Rattle.instructions.specs.Control.{controls}
 use Rattle.instructions.specs.Transfer.{transfers}
-use Rattle.instructions.specs.System.{Privileged, traps, systems, illegalS}
+use Rattle.instructions.specs.System.{SystemMeaning, traps, systems, illegalSystem}
 use Rattle.instructions.specs.Table.{byPsw, meanings, executed}
 
 -- an element of a mapped list
@@ -114,16 +114,16 @@ module _ (op : ℕ) where
       to-second h ∙ stay (map simple controls) third d (op - 32) 14 control-count (omega arith)
       ∙ mapped-at simple controls (op - 32) illegal d (omega (arith, control-plain))
 
-  traps-at : 46 ≤ op → op < 48 → table op ≡ byPsw (getD traps (op - 46) illegalS)
+  traps-at : 46 ≤ op → op < 48 → table op ≡ byPsw (getD traps (op - 46) illegalSystem)
   traps-at h k =
       to-third h ∙ stay (map byPsw traps) fourth d (op - 46) 2 trap-count (omega arith)
-      ∙ mapped-at byPsw traps (op - 46) illegalS d (omega (arith, trap-plain))
+      ∙ mapped-at byPsw traps (op - 46) illegalSystem d (omega (arith, trap-plain))
 
   moves : 48 ≤ op → op < 56 → table op ≡ getD transfers (op - 48) d
   moves h k = to-fourth h ∙ stay transfers last d (op - 48) 8 transfer-count (omega arith)
 
-  manages : 56 ≤ op → op < 62 → table op ≡ byPsw (getD systems (op - 56) illegalS)
-  manages h k = to-last h ∙ mapped-at byPsw systems (op - 56) illegalS d (omega (arith, system-plain))
+  manages : 56 ≤ op → op < 62 → table op ≡ byPsw (getD systems (op - 56) illegalSystem)
+  manages h k = to-last h ∙ mapped-at byPsw systems (op - 56) illegalSystem d (omega (arith, system-plain))
 
   ends : 62 ≤ op → table op ≡ d
   ends h = to-last (omega arith) ∙ List·getD-eq-default last d {n = op - 56} (omega (arith, system-count))
@@ -139,7 +139,7 @@ module _ (s : Surroundings) (o : Operands) (op : ℕ) where
   unfolding meanings
   by-control h k = ap (λ (f : Meaning). f s o) (sym (flows op h k))
 
-  pub by-trap : 46 ≤ op → op < 48 → getD traps (op - 46) illegalS (s .psw) (o .y) (o .word) ≡ getD meanings op (simple illegal) s o
+  pub by-trap : 46 ≤ op → op < 48 → getD traps (op - 46) illegalSystem (s .psw) (o .y) (o .word) ≡ getD meanings op (simple illegal) s o
   unfolding meanings
   by-trap h k = ap (λ (f : Meaning). f s o) (sym (traps-at op h k))
 
@@ -147,7 +147,7 @@ module _ (s : Surroundings) (o : Operands) (op : ℕ) where
   unfolding meanings
   by-transfer h k = ap (λ (f : Meaning). f s o) (sym (moves op h k))
 
-  pub by-system : 56 ≤ op → op < 62 → getD systems (op - 56) illegalS (s .psw) (o .y) (o .word) ≡ getD meanings op (simple illegal) s o
+  pub by-system : 56 ≤ op → op < 62 → getD systems (op - 56) illegalSystem (s .psw) (o .y) (o .word) ≡ getD meanings op (simple illegal) s o
   unfolding meanings
   by-system h k = ap (λ (f : Meaning). f s o) (sym (manages op h k))
 

@@ -19,7 +19,7 @@ fieldY word = word / 2 ^ 16 % 32
 abbrev pub fieldR : ℕ → ℕ
 fieldR word = word / 2 ^ 11 % 32
 
--- the registers that bits 25..21 and 20..16 name, the instruction word, and the PC after the fetch
+-- the values of the registers that bits 25..21 and 20..16 name, the instruction word, and the PC after the fetch
 pub record Operands : Type 0 where
   pub x : ℕ
   pub y : ℕ

@@ -1,5 +1,5 @@
--- The system instructions (manual, 3.6), a clause for each, and their opcodes 2E, 2F and 38 to 3D. What changes more than one register is
--- named by its opcode and done by the step.
+-- The system instructions (manual, 3.6), a clause for each, and their opcodes 2E, 2F and 38 to 3D. RFX, MVFS, MVTS and the TLB instructions
+-- touch more of the processor than the look reads: they are named by their opcodes, and the step does them.
 use mathlib.Core.Bool.{cond}
 use mathlib.Core.List.{List, [], _∷_}
 use Prim.Native.Nat.{ℕ, _%_, _^_}
@@ -17,41 +17,41 @@ abbrev pub numberZ : ℕ → ℕ
 numberZ word = word % 2 ^ 16
 
 -- what they read: the PSW, the register of bits 20..16, and the instruction word
-abbrev pub Privileged : Type 0
-Privileged = ℕ → ℕ → ℕ → Action
+abbrev pub SystemMeaning : Type 0
+SystemMeaning = ℕ → ℕ → ℕ → Action
 
 -- 3.6.1 to 3.6.8
-abbrev pub TRAP : Privileged
+abbrev pub TRAP : SystemMeaning
 TRAP psw y word = fault 20
 
-abbrev pub RFX : Privileged
+abbrev pub RFX : SystemMeaning
 RFX psw y word = privileged psw (System 0x2F 0 0)
 
-abbrev pub MVFS : Privileged
+abbrev pub MVFS : SystemMeaning
 MVFS psw y word = privileged psw (System 0x38 (numberZ word) (fieldY word))
 
-abbrev pub MVTS : Privileged
+abbrev pub MVTS : SystemMeaning
 MVTS psw y word = privileged psw (System 0x39 (numberZ word) y)
 
-abbrev pub TBS : Privileged
+abbrev pub TBS : SystemMeaning
 TBS psw y word = privileged psw (System 0x3A 0 0)
 
-abbrev pub TBWR : Privileged
+abbrev pub TBWR : SystemMeaning
 TBWR psw y word = privileged psw (System 0x3B 0 0)
 
-abbrev pub TBRI : Privileged
+abbrev pub TBRI : SystemMeaning
 TBRI psw y word = privileged psw (System 0x3C 0 0)
 
-abbrev pub TBWI : Privileged
+abbrev pub TBWI : SystemMeaning
 TBWI psw y word = privileged psw (System 0x3D 0 0)
 
-abbrev pub illegalS : Privileged
-illegalS psw y word = fault 17
+abbrev pub illegalSystem : SystemMeaning
+illegalSystem psw y word = fault 17
 
 -- opcodes 2E and 2F
-unfoldable pub traps : List Privileged
+unfoldable pub traps : List SystemMeaning
 traps = TRAP ∷ RFX ∷ []
 
 -- opcodes 38 to 3D
-unfoldable pub systems : List Privileged
+unfoldable pub systems : List SystemMeaning
 systems = MVFS ∷ MVTS ∷ TBS ∷ TBWR ∷ TBRI ∷ TBWI ∷ []

@@ -6,9 +6,9 @@ use Rattle.instructions.specs.Operands.{Meaning, Surroundings, Operands,
 use Rattle.instructions.specs.Compute.{computations}
 use Rattle.instructions.specs.Control.{controls}
 use Rattle.instructions.specs.Transfer.{transfers}
-use Rattle.instructions.specs.System.{Privileged, traps, systems}
+use Rattle.instructions.specs.System.{SystemMeaning, traps, systems}
 
-abbrev pub byPsw : Privileged → Meaning
+abbrev pub byPsw : SystemMeaning → Meaning
 byPsw f s o = f (s .psw) (o .y) (o .word)
 
 -- 00 to 1F, 20 to 2D, 2E and 2F, 30 to 37, 38 to 3D; 3E and 3F are illegal

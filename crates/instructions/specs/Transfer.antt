@@ -1,5 +1,5 @@
 -- Fetch, loads and stores (manual, 3.2 and 3.5), a clause for each instruction, and their opcodes 30 to 37.
-use mathlib.Core.Bool.{Bool, true, false}
+use mathlib.Core.Bool.{true, false}
 use mathlib.Core.List.{List, [], _∷_}
 use Prim.Native.Nat.{ℕ}
 use Rattle.words.specs.Numbers.{zeroExtend, signExtend}
@@ -8,7 +8,7 @@ use Rattle.processor.specs.Translation.{translated, translationEid}
 use Rattle.processor.specs.declared.translation.Translation.{Translation}
 use Rattle.processor.specs.declared.translation.Translation.the-variants.{Physical, TlbMiss, TlbWrite, TlbInvalid, IllegalAddress, PrivilegedAddress}
 use Rattle.memory.specs.Map.{Memory}
-use Rattle.memory.specs.Access.{loadOf, storeAnswer}
+use Rattle.memory.specs.Access.{loadOf, loadedEid, storeAnswer, storedEid}
 use Rattle.memory.specs.declared.Loaded.{Loaded}
 use Rattle.memory.specs.declared.Loaded.the-variants as loaded
 use Rattle.memory.specs.declared.Stored.{Stored}
@@ -23,15 +23,15 @@ use Rattle.instructions.specs.declared.transfer.Read.the-variants.{Value
 
 abbrev pub answered : Loaded → Read
 answered (loaded.Value v) = Value v
-answered loaded.Timeout = Fault 16
+answered loaded.Timeout = Fault (loadedEid loaded.Timeout)
 
 abbrev pub readThrough : ℕ → Memory → Translation → Read
 readThrough width m (Physical address) = answered (loadOf width m address)
-readThrough width m TlbMiss = Fault 21
-readThrough width m TlbWrite = Fault 22
-readThrough width m TlbInvalid = Fault 23
-readThrough width m IllegalAddress = Fault 24
-readThrough width m PrivilegedAddress = Fault 25
+readThrough width m TlbMiss = Fault (translationEid TlbMiss)
+readThrough width m TlbWrite = Fault (translationEid TlbWrite)
+readThrough width m TlbInvalid = Fault (translationEid TlbInvalid)
+readThrough width m IllegalAddress = Fault (translationEid IllegalAddress)
+readThrough width m PrivilegedAddress = Fault (translationEid PrivilegedAddress)
 
 -- the byte, half-word or word at a virtual address
 unfoldable pub readFrom : ℕ → Surroundings → ℕ → Read
@@ -49,7 +49,7 @@ landed extend number address next (Fault eid) = Exception eid address 0
 unfoldable pub load : ℕ → (ℕ → ℕ) → Meaning
 load width extend s o = landed extend (fieldY (o .word)) (addressOf o) (o .next) (readFrom width s (addressOf o))
 
--- the extensions of LDW, LDH, LDHU, LDB and LDBU
+-- the extensions of LDW, LDH, LDHU, LDB and LDBU in this order, as the code chooses them
 unfoldable pub extensions : List (ℕ → ℕ)
 extensions = (λ v. v) ∷ signExtend 16 ∷ zeroExtend 16 ∷ signExtend 8 ∷ zeroExtend 8 ∷ []
 
@@ -73,15 +73,15 @@ LDBU = load 1 (zeroExtend 8)
 
 abbrev pub settled : ℕ → ℕ → ℕ → ℕ → Stored → Action
 settled width physical value address stored.Done = Store width physical value
-settled width physical value address stored.Timeout = Exception 16 address 0
+settled width physical value address stored.Timeout = Exception (storedEid stored.Timeout) address 0
 
 abbrev pub storeThrough : ℕ → Memory → ℕ → ℕ → Translation → Action
 storeThrough width m value address (Physical physical) = settled width physical value address (storeAnswer width m physical)
-storeThrough width m value address TlbMiss = Exception 21 address 0
-storeThrough width m value address TlbWrite = Exception 22 address 0
-storeThrough width m value address TlbInvalid = Exception 23 address 0
-storeThrough width m value address IllegalAddress = Exception 24 address 0
-storeThrough width m value address PrivilegedAddress = Exception 25 address 0
+storeThrough width m value address TlbMiss = Exception (translationEid TlbMiss) address 0
+storeThrough width m value address TlbWrite = Exception (translationEid TlbWrite) address 0
+storeThrough width m value address TlbInvalid = Exception (translationEid TlbInvalid) address 0
+storeThrough width m value address IllegalAddress = Exception (translationEid IllegalAddress) address 0
+storeThrough width m value address PrivilegedAddress = Exception (translationEid PrivilegedAddress) address 0
 
 -- a value to a virtual address
 unfoldable pub storeTo : ℕ → Surroundings → ℕ → ℕ → Action

@@ -1,9 +1,10 @@
 // The computation instructions (manual, 3.3).
 use crate::Action;
+use processor::Processor;
 use words::computation;
 use words::extension;
 ghost use mathlib.Core.Path.{_≡_};
-ghost use Prim.Native.Nat.{_≤_, _<_};
+ghost use Prim.Native.Nat.{_≤_};
 ghost use lib.ListN.{getD};
 ghost use Rattle.words.specs.Computation.{signedQuotient, unsignedQuotient, signedRemainder, unsignedRemainder};
 ghost use Rattle.instructions.specs.Operands.{operands, illegal};
@@ -13,7 +14,7 @@ fn quotient_signed(number: u32, x: u32, y: u32, next: u32) -> Action
     ensures { λ r. ⌜ r ≡ unlessZero y (Action.Write number (signedQuotient x y) next) ⌝ }
 {
     if y == 0 {
-        return Action::Exception(19, 0, 0);
+        return Action::Exception(Processor::DIVISION_BY_ZERO, 0, 0);
     }
     Action::Write(number, computation::divide_signed(x, y), next)
 }
@@ -22,7 +23,7 @@ fn quotient_unsigned(number: u32, x: u32, y: u32, next: u32) -> Action
     ensures { λ r. ⌜ r ≡ unlessZero y (Action.Write number (unsignedQuotient x y) next) ⌝ }
 {
     if y == 0 {
-        return Action::Exception(19, 0, 0);
+        return Action::Exception(Processor::DIVISION_BY_ZERO, 0, 0);
     }
     Action::Write(number, computation::divide_unsigned(x, y), next)
 }
@@ -31,7 +32,7 @@ fn remaining_signed(number: u32, x: u32, y: u32, next: u32) -> Action
     ensures { λ r. ⌜ r ≡ unlessZero y (Action.Write number (signedRemainder x y) next) ⌝ }
 {
     if y == 0 {
-        return Action::Exception(19, 0, 0);
+        return Action::Exception(Processor::DIVISION_BY_ZERO, 0, 0);
     }
     Action::Write(number, computation::remainder_signed(x, y), next)
 }
@@ -40,7 +41,7 @@ fn remaining_unsigned(number: u32, x: u32, y: u32, next: u32) -> Action
     ensures { λ r. ⌜ r ≡ unlessZero y (Action.Write number (unsignedRemainder x y) next) ⌝ }
 {
     if y == 0 {
-        return Action::Exception(19, 0, 0);
+        return Action::Exception(Processor::DIVISION_BY_ZERO, 0, 0);
     }
     Action::Write(number, computation::remainder_unsigned(x, y), next)
 }
@@ -98,6 +99,6 @@ fn logic(opcode: u32, x: u32, y: u32, word: u32, next: u32) -> Action
         0x1C => Action::Write(r, computation::shift_arithmetic(x, y), next),
         0x1D => Action::Write(n, computation::shift_arithmetic(x, z), next),
         0x1F => Action::Write(n, computation::load_high(word), next),
-        _ => Action::Exception(17, 0, 0),
+        _ => Action::Exception(Processor::ILLEGAL_INSTRUCTION, 0, 0),
     }
 }

@@ -1,5 +1,6 @@
 // The control flow instructions (manual, 3.4).
 use crate::Action;
+use processor::Processor;
 use words::comparison;
 use words::comparison::Order;
 use words::computation;
@@ -75,6 +76,6 @@ pub fn flow(kind: u32, x: u32, y: u32, word: u32, next: u32) -> Action
         11 => Action::Write(0, 0, x),
         12 => Action::Write(31, next, target_26(word, next)),
         13 => Action::Write(31, next, x),
-        _ => Action::Exception(17, 0, 0),
+        _ => Action::Exception(Processor::ILLEGAL_INSTRUCTION, 0, 0),
     }
 }

@@ -4,6 +4,7 @@ use crate::compute;
 use crate::control;
 use crate::system;
 use crate::transfer;
+use processor::Processor;
 use processor::Words;
 ghost use mathlib.Core.Path.{_≡_};
 ghost use lib.ListN.{getD};
@@ -48,6 +49,7 @@ pub fn execute<'a>(
             next,
         ),
         0x38..=0x3D => system::system(opcode - 0x38, psw, y, word),
-        _ => Action::Exception(17, 0, 0),
+        0x3E..=0x3F => Action::Exception(Processor::ILLEGAL_INSTRUCTION, 0, 0),
+        _ => Action::Exception(Processor::ILLEGAL_INSTRUCTION, 0, 0),
     }
 }

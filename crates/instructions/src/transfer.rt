@@ -2,6 +2,7 @@
 use crate::Action;
 use memory::Loaded;
 use memory::Place;
+use processor::Processor;
 use processor::Words;
 use processor::translation;
 use processor::translation::Translation;
@@ -40,7 +41,7 @@ pub fn read_byte<'a>(
     let loaded = memory::load_byte(ram, rom, belt, physical);
     match loaded {
         Loaded::Value(v) => Read::Value(v),
-        Loaded::Timeout => Read::Fault(16),
+        Loaded::Timeout => Read::Fault(Processor::BUS_TIMEOUT),
     }
 }
 
@@ -62,7 +63,7 @@ pub fn read_half<'a>(
     let loaded = memory::load_half(ram, rom, belt, physical);
     match loaded {
         Loaded::Value(v) => Read::Value(v),
-        Loaded::Timeout => Read::Fault(16),
+        Loaded::Timeout => Read::Fault(Processor::BUS_TIMEOUT),
     }
 }
 
@@ -84,7 +85,7 @@ pub fn read_word<'a>(
     let loaded = memory::load_word(ram, rom, belt, physical);
     match loaded {
         Loaded::Value(v) => Read::Value(v),
-        Loaded::Timeout => Read::Fault(16),
+        Loaded::Timeout => Read::Fault(Processor::BUS_TIMEOUT),
     }
 }
 
@@ -101,6 +102,7 @@ fn extend(kind: u32, v: u32) -> u32
     }
 }
 
+// The end of a load: the value extended into its register, or the fault with its address.
 fn land(kind: u32, read: Read, number: u32, address: u32, next: u32) -> Action
     ensures { λ r. ⌜ r ≡ landed (getD extensions kind (zeroExtend 8)) number address next read ⌝ }
 {
@@ -143,7 +145,7 @@ fn store<'a>(
         Place::Ram(_) => Action::Store(bytes, physical, value),
         Place::Rom(_) => Action::Store(bytes, physical, value),
         Place::Belt(_) => Action::Store(bytes, physical, value),
-        Place::Nothing => Action::Exception(16, address, 0),
+        Place::Nothing => Action::Exception(Processor::BUS_TIMEOUT, address, 0),
     }
 }
 
@@ -204,6 +206,6 @@ pub fn transfer<'a>(
         5 => store(psw, highs, lows, ram, rom, belt, Width::Word, y, address),
         6 => store(psw, highs, lows, ram, rom, belt, Width::Half, y, address),
         7 => store(psw, highs, lows, ram, rom, belt, Width::Byte, y, address),
-        _ => Action::Exception(17, 0, 0),
+        _ => Action::Exception(Processor::ILLEGAL_INSTRUCTION, 0, 0),
     }
 }

@@ -3,4 +3,5 @@ pub mod Looks
 pub mod StepLaws
 pub mod PcLaws
 pub mod StepFit
+pub mod Named
 pub mod StarredCases

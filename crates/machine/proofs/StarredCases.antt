@@ -32,13 +32,14 @@ use Rattle.machine.specs.Step.{lookFrom, look, systemDone, storeWidth, s
 abbrev bytes : ℕ → List ℕ
 bytes word = word / 0x1000000 ∷ word / 0x10000 % 256 ∷ word / 0x100 % 256 ∷ word % 256 ∷ []
 
--- a processor with RAM and belt of zeros and a ROM that begins with two words
-abbrev holding : ℕ → ℕ → Processor → Machine
-holding first second p = machine p (replicate 4096 0) (bytes first ++ bytes second ++ replicate 4088 0) (replicate 1024 0)
+-- a processor with RAM and belt of zeros, and a ROM that begins with a word
+abbrev holding : ℕ → Processor → Machine
+holding word p = machine p (replicate 4096 0) (bytes word ++ replicate 4092 0) (replicate 1024 0)
 
--- and one with RFX at the general service address in RAM
-abbrev waiting : Processor → Machine
-waiting p = machine p (bytes 0 ++ bytes 0xBC000000 ++ replicate 4088 0) (replicate 4096 0) (replicate 1024 0)
+-- PSW 0C804000, with RFX in RAM where general service begins
+abbrev interrupted : Machine
+interrupted =
+    machine (specialWritten atReset 0 0x0C804000) (bytes 0 ++ bytes 0xBC000000 ++ replicate 4088 0) (replicate 4096 0) (replicate 1024 0)
 
 -- from reset, with two registers written
 abbrev withTwo : ℕ → ℕ → ℕ → ℕ → Processor
@@ -46,14 +47,14 @@ withTwo i v j w = written (written atReset i v 0xE0000000) j w 0xE0000000
 
 -- one step with no lines
 abbrev next : ℕ → Processor → Processor
-next word p = stepOf (holding word 0 p) 0 .processor
+next word p = stepOf (holding word p) 0 .processor
 
 abbrev register : ℕ → Processor → ℕ
 register i p = getD (p .registers) i 0
 
--- one step of a word in RAM, in User Mode, through TLB entry 7: page 00000 to frame 00000, valid. R1 holds the address
-abbrev userStep : ℕ → ℕ → ℕ
-userStep word address =
+-- the exception of a step of a word in RAM, in User Mode, through TLB entry 7: page 00000 to frame 00000, valid. R1 holds the address
+abbrev userEid : ℕ → ℕ → ℕ
+userEid word address =
     stepEid (machine
     (record {
       registers = set (replicate 32 0) 1 address;
@@ -69,9 +70,9 @@ userStep word address =
     })
     (bytes word ++ replicate 4092 0) (replicate 4096 0) (replicate 1024 0)) 0
 
--- the same in Kernel Mode from ROM, with TLB entry 7 for page 00003 and its low word given
-abbrev kernelStep : ℕ → ℕ → ℕ → Processor
-kernelStep word address low =
+-- the processor after a step of a word in ROM, in Kernel Mode, with TLB entry 7 for page 00003 and its low word given
+abbrev kernelAfter : ℕ → ℕ → ℕ → Processor
+kernelAfter word address low =
     stepOf (machine
     (record {
       registers = set (replicate 32 0) 1 address;
@@ -102,24 +103,30 @@ pub record Starred : Type 0 where
   -- BLT of FFFFFFFF and 0 is taken, by 4 words; BLTU is not
   pub less-taken : next 0x90220004 (withTwo 1 0xFFFFFFFF 2 0) .pc ≡ 0xE0000014
   pub less-unsigned-not-taken : next 0x94220004 (withTwo 1 0xFFFFFFFF 2 0) .pc ≡ 0xE0000004
+  pub less-unsigned-completes : stepEid (holding 0x94220004 (withTwo 1 0xFFFFFFFF 2 0)) 0 ≡ 32
   -- JALR through R31 jumps to the old R31
   pub link-jumps-to-the-old : next 0xB7E00000 (withTwo 1 0 31 0xC0001234) .pc ≡ 0xC0001234
   pub link-is-the-next : register 31 (next 0xB7E00000 (withTwo 1 0 31 0xC0001234)) ≡ 0xE0000004
   -- DIV by 0 from reset: PSW 00130000
   pub division-by-zero : next 0x20221800 atReset .psw ≡ 0x00130000
   -- PSW 0C804000, lines 4000: PSW 0A4E4000, PC C0000004; RFX then gives 0C8E4000
-  pub interrupt-psw : stepOf (holding 0 0 (specialWritten atReset 0 0x0C804000)) 0x4000 .processor .psw ≡ 0x0A4E4000
-  pub interrupt-pc : stepOf (holding 0 0 (specialWritten atReset 0 0x0C804000)) 0x4000 .processor .pc ≡ 0xC0000004
-  pub return-psw : stepOf (stepOf (waiting (specialWritten atReset 0 0x0C804000)) 0x4000) 0 .processor .psw ≡ 0x0C8E4000
+  pub interrupt-named : stepEid interrupted 0x4000 ≡ 14
+  pub interrupt-psw : stepOf interrupted 0x4000 .processor .psw ≡ 0x0A4E4000
+  pub interrupt-pc : stepOf interrupted 0x4000 .processor .pc ≡ 0xC0000004
+  pub return-psw : stepOf (stepOf interrupted 0x4000) 0x4000 .processor .psw ≡ 0x0C8E4000
+  pub return-pc : stepOf (stepOf interrupted 0x4000) 0x4000 .processor .pc ≡ 0xE0000000
   -- user word load at 80000002: 24; at 80000000: 25
-  pub user-load-misaligned : userStep 0xC0220000 0x80000002 ≡ 24
-  pub user-load-privileged : userStep 0xC0220000 0x80000000 ≡ 25
+  pub user-load-misaligned : userEid 0xC0220000 0x80000002 ≡ 24
+  pub user-load-privileged : userEid 0xC0220000 0x80000000 ≡ 25
   -- a miss at 00001000 goes to base + 8, a kernel miss at 80000000 to base + 4
-  pub miss-below : kernelStep 0xC0220000 0x00001000 0 .pc ≡ 0xE0000008
-  pub miss-above : kernelStep 0xC0220000 0x80000000 0 .pc ≡ 0xE0000004
+  pub miss-below : kernelAfter 0xC0220000 0x00001000 0 .pc ≡ 0xE0000008
+  pub miss-below-named : identifier (kernelAfter 0xC0220000 0x00001000 0 .psw) ≡ 21
+  pub miss-above : kernelAfter 0xC0220000 0x80000000 0 .pc ≡ 0xE0000004
+  pub miss-above-named : identifier (kernelAfter 0xC0220000 0x80000000 0 .psw) ≡ 21
   -- a store through an entry with bits 0 and 1 clear: 23; with only bit 0 set: 22
-  pub store-invalid : identifier (kernelStep 0xD4220000 0x00003000 0x00000000 .psw) ≡ 23
-  pub store-read-only : identifier (kernelStep 0xD4220000 0x00003000 0x00000001 .psw) ≡ 22
+  pub store-invalid : identifier (kernelAfter 0xD4220000 0x00003000 0x00000000 .psw) ≡ 23
+  pub store-read-only : identifier (kernelAfter 0xD4220000 0x00003000 0x00000001 .psw) ≡ 22
+  pub store-granted : kernelAfter 0xD4220000 0x00003000 0x00000003 .psw ≡ 0
 
 pub starred : Starred
 unfolding
@@ -139,16 +146,22 @@ starred =
       arithmetic-shift = refl;
       less-taken = refl;
       less-unsigned-not-taken = refl;
+      less-unsigned-completes = refl;
       link-jumps-to-the-old = refl;
       link-is-the-next = refl;
       division-by-zero = refl;
+      interrupt-named = refl;
       interrupt-psw = refl;
       interrupt-pc = refl;
       return-psw = refl;
+      return-pc = refl;
       user-load-misaligned = refl;
       user-load-privileged = refl;
       miss-below = refl;
+      miss-below-named = refl;
       miss-above = refl;
+      miss-above-named = refl;
       store-invalid = refl;
       store-read-only = refl;
+      store-granted = refl;
     }

@@ -45,7 +45,8 @@ look m lines = lookFrom (surroundingsOf m) (m .processor .registers) (m .process
 
 -- ---- the action
 
--- the system instructions, by opcode
+-- the system instructions, by opcode; the last is TBWI (3D). z is a special register's number, v the register's number for MVFS and the
+-- value for MVTS
 unfoldable pub systemDone : ℕ → ℕ → ℕ → Processor → Processor
 systemDone opcode z v p =
     cond (eqb opcode 0x2F) (returned p)

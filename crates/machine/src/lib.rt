@@ -55,6 +55,7 @@ pub fn look<'a>(
     }
 }
 
+// The look has found that something answers.
 fn store(ram: &mut [u8], rom: &[u8], belt: &mut [u8], width: u32, physical: u32, value: u32)
     ensures { λ r. ⌜ memory (now (ram .exit)) (now (rom .entry)) (now (belt .exit)) ≡ memoryAfter (storeWidth width) (memory (now (ram .entry)) (now (rom .entry)) (now (belt .entry))) physical value ⌝ }
 {
@@ -102,18 +103,18 @@ pub fn step(p: Processor, ram: &mut [u8], rom: &[u8], belt: &mut [u8], lines: u3
     match action {
         Action::Write(n, v, next) => Stepped {
             processor: p.write(n, v, next),
-            eid: 32,
+            eid: Processor::NO_EXCEPTION,
         },
         Action::Store(width, physical, v) => {
             store(ram, rom, belt, width, physical, v);
             Stepped {
                 processor: p.jump(computation::add(p.pc, 4)),
-                eid: 32,
+                eid: Processor::NO_EXCEPTION,
             }
         }
         Action::System(opcode, z, v) => Stepped {
             processor: system(p, opcode, z, v),
-            eid: 32,
+            eid: Processor::NO_EXCEPTION,
         },
         Action::Exception(eid, address, _) => Stepped {
             processor: p.enter(eid, address),

@@ -5,7 +5,7 @@ use Prim.Native.Nat.{ℕ, _+_, _≤_}
 use native.Mathlib.Omega.{arith}
 use lib.Dec.{eqb}
 use Rattle.processor.specs.Psw.{vector}
-use Rattle.processor.specs.Exception.{serviceBase}
+use Rattle.processor.specs.Exception.{serviceBase, userMiss, serviceAddress}
 
 pub base-small : (psw : ℕ) → serviceBase psw ≤ 0xE0000000
 unfolding serviceBase
@@ -14,3 +14,12 @@ base-small psw = go (eqb (vector psw) 0)
     go : (t : Bool) → cond t 3758096384 3221225472 ≤ 3758096384
     go true = omega arith
     go false = omega arith
+
+-- a miss below 80000000 goes to base + 8, and one from there up to base + 4, whatever the PSW: in either mode
+pub miss-below : (psw : ℕ) → serviceAddress psw 21 0x00001000 ≡ serviceBase psw + 8
+unfolding serviceAddress userMiss
+miss-below psw = refl
+
+pub miss-above : (psw : ℕ) → serviceAddress psw 21 0x80000000 ≡ serviceBase psw + 4
+unfolding serviceAddress userMiss
+miss-above psw = refl

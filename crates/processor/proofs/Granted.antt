@@ -6,7 +6,7 @@ use Prim.Native.Nat.{ℕ, _+_, _*_, _/_, _%_, _≤_, _<_}
 use native.Mathlib.Omega.{arith}
 use lib.Dec.{leb, ltb, eqb}
 use lib.ListN.{getD}
-use borrow.Author.Tests.{ltb-true, leb-true, leb-false}
+use borrow.Author.Tests.{ltb-true, leb-true, leb-false, eqb-true}
 use Rattle.words.specs.Logic.{both}
 use Rattle.processor.specs.Psw.{userMode}
 use Rattle.processor.specs.Tlb.{pageOf, lookup}
@@ -14,8 +14,9 @@ use Rattle.processor.specs.Translation.{frameOf, valid, writable, throug
 use Rattle.processor.specs.declared.translation.Translation.{Translation}
 use Rattle.processor.specs.declared.translation.Translation.the-variants.{Physical, TlbMiss, TlbWrite, TlbInvalid, IllegalAddress, PrivilegedAddress}
 
--- a page below 80000 whose entry is valid, writable for a store, and names the frame of the physical address
-pub record Granted (highs lows : List ℕ) (store : Bool) (address physical : ℕ) : Type 0 where
+-- an aligned address, in a page below 80000 whose entry is valid, writable for a store, and names the frame of the physical address
+pub record Granted (highs lows : List ℕ) (width : ℕ) (store : Bool) (address physical : ℕ) : Type 0 where
+  pub aligned : address % width ≡ 0
   pub below : pageOf address < 0x80000
   pub entry : lookup highs (pageOf address) < 32
   pub allowed : valid (getD lows (lookup highs (pageOf address)) 0) ≡ true
@@ -58,12 +59,12 @@ module _ (psw : ℕ) (highs lows : List ℕ) (width : ℕ) (store : Bool) (addre
   low = getD lows (lookup highs (pageOf address)) 0
 
   pub user-granted : userMode psw ≡ true → translated psw highs lows width store address ≡ Physical physical
-      → Granted highs lows store address physical
+      → Granted highs lows width store address physical
   unfolding translated forbidden mapped through isPhysical
   user-granted user e =
       chosen (not (eqb (address % width) 0)) e
       (λ _ no. refused IllegalAddress refl no)
-      (λ _ e1. chosen (both (leb 0x80000000 address) (userMode psw)) e1
+      (λ straight e1. chosen (both (leb 0x80000000 address) (userMode psw)) e1
       (λ _ no. refused PrivilegedAddress refl no)
       (λ free e2.
       let under : address < 0x80000000 = leb-false 0x80000000 address (first-fails _ _ free user) in
@@ -76,6 +77,7 @@ module _ (psw : ℕ) (highs lows : List ℕ) (width : ℕ) (store : Bool) (addre
       (λ _ no. refused TlbWrite refl no)
       (λ may e6.
       record {
+        aligned = eqb-true (address % width) 0 (not-false (eqb (address % width) 0) straight);
         below = omega arith;
         entry = ltb-true _ _ found;
         allowed = not-false (valid low) ok;

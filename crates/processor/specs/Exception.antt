@@ -20,15 +20,15 @@ unfoldable pub serviceAddress : ℕ → ℕ → ℕ → ℕ
 serviceAddress psw eid address = serviceBase psw + cond (userMiss eid address) 8 4
 
 -- faults 21 to 25 leave their address
-abbrev pub badAddress : ℕ → ℕ → ℕ → ℕ
-badAddress eid address former = cond (both (leb 21 eid) (leb eid 25)) address former
+abbrev pub badAddressAfter : ℕ → ℕ → ℕ → ℕ
+badAddressAfter eid address former = cond (both (leb 21 eid) (leb eid 25)) address former
 
 -- and 21 to 23 its page number
-abbrev pub entryHigh : ℕ → ℕ → ℕ → ℕ
-entryHigh eid address former = cond (both (leb 21 eid) (leb eid 23)) (keptHigh address) former
+abbrev pub entryHighAfter : ℕ → ℕ → ℕ → ℕ
+entryHighAfter eid address former = cond (both (leb 21 eid) (leb eid 23)) (keptHigh address) former
 
--- the state after an exception is accepted. The PC is that of the next instruction for an interrupt, and the instruction's own for a
--- fault: before the instruction completes, it is both
+-- the state after an exception is accepted, before the instruction at the PC completes: that is the next instruction for an interrupt, and
+-- the faulting one for a fault
 unfoldable pub entered : Processor → ℕ → ℕ → Processor
 entered p eid address =
     record {
@@ -36,9 +36,9 @@ entered p eid address =
       pc = serviceAddress (p .psw) eid address;
       psw = pushed (p .psw) eid;
       index = p .index;
-      entryhigh = entryHigh eid address (p .entryhigh);
+      entryhigh = entryHighAfter eid address (p .entryhigh);
       entrylow = p .entrylow;
-      badaddress = badAddress eid address (p .badaddress);
+      badaddress = badAddressAfter eid address (p .badaddress);
       tlbhigh = p .tlbhigh;
       tlblow = p .tlblow;
       replacement = p .replacement;

@@ -5,7 +5,7 @@ use lib.Bits.{bitAnd}
 use lib.Dec.{eqb}
 use Rattle.processor.specs.Psw.{interruptCurrent, enabled}
 
--- the lowest of the n channels from i on whose bit is set, or 32
+-- the lowest of the n channels from i on whose bit is set, or 32; bit j of ready is channel i + j
 unfoldable pub lowest : ℕ → ℕ → ℕ → ℕ
 lowest zero i ready = 32
 lowest (suc n) i ready = cond (eqb (ready % 2) 1) i (lowest n (suc i) (ready / 2))

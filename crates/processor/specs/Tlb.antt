@@ -19,7 +19,7 @@ findFrom (suc n) highs i page = cond (eqb (pageOf (getD highs i 0)) page) i (fin
 unfoldable pub lookup : List ℕ → ℕ → ℕ
 lookup highs page = findFrom 32 highs 0 page
 
--- entry i, modulo 32, written from Entry High and Entry Low
+-- entry i, modulo 32, written from Entry High and Entry Low, and the replacement index after it
 unfoldable pub entryWritten : Processor → ℕ → ℕ → Processor
 entryWritten p i replacement =
     record {

@@ -2,7 +2,7 @@
 use crate::Processor;
 use crate::status;
 ghost use mathlib.Core.Path.{_≡_};
-ghost use Rattle.processor.specs.Exception.{serviceBase, userMiss, serviceAddress, badAddress, entryHigh, entered, returned};
+ghost use Rattle.processor.specs.Exception.{serviceBase, userMiss, serviceAddress, badAddressAfter, entryHighAfter, entered, returned};
 
 fn service_base(psw: u32) -> u32
     ensures { λ r. ⌜ r ≡ serviceBase psw ⌝ }
@@ -33,7 +33,7 @@ fn service_address(psw: u32, eid: u32, address: u32) -> u32
 }
 
 fn bad_address(eid: u32, address: u32, former: u32) -> u32
-    ensures { λ r. ⌜ r ≡ badAddress eid address former ⌝ }
+    ensures { λ r. ⌜ r ≡ badAddressAfter eid address former ⌝ }
 {
     if eid < Processor::TLB_MISS {
         return former;
@@ -45,7 +45,7 @@ fn bad_address(eid: u32, address: u32, former: u32) -> u32
 }
 
 fn entry_high(eid: u32, address: u32, former: u32) -> u32
-    ensures { λ r. ⌜ r ≡ entryHigh eid address former ⌝ }
+    ensures { λ r. ⌜ r ≡ entryHighAfter eid address former ⌝ }
 {
     if eid < Processor::TLB_MISS {
         return former;

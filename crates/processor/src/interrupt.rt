@@ -1,4 +1,5 @@
 // Which interrupt is accepted (manual, 2.7.3).
+use crate::Processor;
 ghost use mathlib.Core.Path.{_≡_};
 ghost use Rattle.processor.specs.Interrupt.{lowest, channel};
 
@@ -15,7 +16,7 @@ fn lowest_ready(ready: u32) -> u32
         rest = rest / 2;
         i += 1;
     }
-    32
+    Processor::NO_EXCEPTION
 }
 
 // The channel that is accepted, or 32.
@@ -25,5 +26,5 @@ pub fn accepted(psw: u32, lines: u32) -> u32
     if psw / 0x80_0000 % 2 == 1 {
         return lowest_ready(lines & (psw % 0x1_0000));
     }
-    32
+    Processor::NO_EXCEPTION
 }

@@ -1,4 +1,5 @@
 // The translation of a virtual address to a physical one, or its fault (document 01, "One step"; manual, 2.9).
+use crate::Processor;
 use crate::Words;
 use crate::tlb;
 ghost use mathlib.Core.Path.{_≡_};
@@ -101,11 +102,11 @@ pub fn eid_of(answer: Translation) -> u32
     ensures { λ r. ⌜ r ≡ translationEid answer ⌝ }
 {
     match answer {
-        Translation::Physical(_) => 32,
-        Translation::TlbMiss => 21,
-        Translation::TlbWrite => 22,
-        Translation::TlbInvalid => 23,
-        Translation::IllegalAddress => 24,
-        Translation::PrivilegedAddress => 25,
+        Translation::Physical(_) => Processor::NO_EXCEPTION,
+        Translation::TlbMiss => Processor::TLB_MISS,
+        Translation::TlbWrite => Processor::TLB_WRITE,
+        Translation::TlbInvalid => Processor::TLB_INVALID,
+        Translation::IllegalAddress => Processor::ILLEGAL_ADDRESS,
+        Translation::PrivilegedAddress => Processor::PRIVILEGED_ADDRESS,
     }
 }

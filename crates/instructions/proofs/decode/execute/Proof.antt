@@ -64,6 +64,10 @@ returns-6 : tie.Need-returns-6
 unfolding executed
 returns-6 c = by-none _ _ _ (omega arith)
 
+returns-7 : tie.Need-returns-7
+unfolding executed
+returns-7 c = by-none _ _ _ (omega arith)
+
 pub execute-spec : {M : Type 1} → statement M
 execute-spec =
     tie.close
@@ -84,4 +88,5 @@ execute-spec =
     returns-3
     returns-4
     returns-5
-    returns-6)
+    returns-6
+    returns-7)

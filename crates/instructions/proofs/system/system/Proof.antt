@@ -2,7 +2,7 @@
 use Prim.Native.Nat.{ℕ}
 use lib.ListN.{getD}
 use borrow.Author.Needs.{needs}
-use Rattle.instructions.specs.System.{illegalS, systems}
+use Rattle.instructions.specs.System.{illegalSystem, systems}
 use Rattle.instructions.proofs.Arms.{arm, system-illegal}
 use Rattle.instructions.proofs.system.system.Statement.{statement}
 use Rattle.instructions.proofs.system.system.Tie as tie
@@ -27,27 +27,27 @@ privileged-requires-6 c κs = search needs
 
 returns : tie.Need-returns
 unfolding systems
-returns c = arm (λ (n : ℕ). getD systems n illegalS (c .before .before .args .psw) (c .before .before .args .y) (c .before .before .args .word)) (c .before .match .keys1) (c .privileged .ensures)
+returns c = arm (λ (n : ℕ). getD systems n illegalSystem (c .before .before .args .psw) (c .before .before .args .y) (c .before .before .args .word)) (c .before .match .keys1) (c .privileged .ensures)
 
 returns-2 : tie.Need-returns-2
 unfolding systems
-returns-2 c = arm (λ (n : ℕ). getD systems n illegalS (c .before .before .args .psw) (c .before .before .args .y) (c .before .before .args .word)) (c .before .match .keys2) (c .privileged2 .ensures)
+returns-2 c = arm (λ (n : ℕ). getD systems n illegalSystem (c .before .before .args .psw) (c .before .before .args .y) (c .before .before .args .word)) (c .before .match .keys2) (c .privileged2 .ensures)
 
 returns-3 : tie.Need-returns-3
 unfolding systems
-returns-3 c = arm (λ (n : ℕ). getD systems n illegalS (c .before .before .args .psw) (c .before .before .args .y) (c .before .before .args .word)) (c .before .match .keys3) (c .privileged3 .ensures)
+returns-3 c = arm (λ (n : ℕ). getD systems n illegalSystem (c .before .before .args .psw) (c .before .before .args .y) (c .before .before .args .word)) (c .before .match .keys3) (c .privileged3 .ensures)
 
 returns-4 : tie.Need-returns-4
 unfolding systems
-returns-4 c = arm (λ (n : ℕ). getD systems n illegalS (c .before .before .args .psw) (c .before .before .args .y) (c .before .before .args .word)) (c .before .match .keys4) (c .privileged4 .ensures)
+returns-4 c = arm (λ (n : ℕ). getD systems n illegalSystem (c .before .before .args .psw) (c .before .before .args .y) (c .before .before .args .word)) (c .before .match .keys4) (c .privileged4 .ensures)
 
 returns-5 : tie.Need-returns-5
 unfolding systems
-returns-5 c = arm (λ (n : ℕ). getD systems n illegalS (c .before .before .args .psw) (c .before .before .args .y) (c .before .before .args .word)) (c .before .match .keys5) (c .privileged5 .ensures)
+returns-5 c = arm (λ (n : ℕ). getD systems n illegalSystem (c .before .before .args .psw) (c .before .before .args .y) (c .before .before .args .word)) (c .before .match .keys5) (c .privileged5 .ensures)
 
 returns-6 : tie.Need-returns-6
 unfolding systems
-returns-6 c = arm (λ (n : ℕ). getD systems n illegalS (c .before .before .args .psw) (c .before .before .args .y) (c .before .before .args .word)) (c .before .match .keys6) (c .privileged6 .ensures)
+returns-6 c = arm (λ (n : ℕ). getD systems n illegalSystem (c .before .before .args .psw) (c .before .before .args .y) (c .before .before .args .word)) (c .before .match .keys6) (c .privileged6 .ensures)
 
 returns-7 : tie.Need-returns-7
 unfolding systems

@@ -2,7 +2,7 @@
 use Prim.Native.Nat.{ℕ}
 use lib.ListN.{getD}
 use borrow.Author.Needs.{needs}
-use Rattle.instructions.specs.System.{illegalS, traps}
+use Rattle.instructions.specs.System.{illegalSystem, traps}
 use Rattle.instructions.proofs.Arms.{arm, trap-illegal}
 use Rattle.instructions.proofs.system.trap.Statement.{statement}
 use Rattle.instructions.proofs.system.trap.Tie as tie
@@ -12,11 +12,11 @@ privileged-requires c κs = search needs
 
 returns : tie.Need-returns
 unfolding traps
-returns c = arm (λ (n : ℕ). getD traps n illegalS (c .before .args .psw) (c .before .args .y) (c .before .args .word)) (c .match .keys1) (cc)
+returns c = arm (λ (n : ℕ). getD traps n illegalSystem (c .before .args .psw) (c .before .args .y) (c .before .args .word)) (c .match .keys1) (cc)
 
 returns-2 : tie.Need-returns-2
 unfolding traps
-returns-2 c = arm (λ (n : ℕ). getD traps n illegalS (c .before .before .args .psw) (c .before .before .args .y) (c .before .before .args .word)) (c .before .match .keys2) (cc)
+returns-2 c = arm (λ (n : ℕ). getD traps n illegalSystem (c .before .before .args .psw) (c .before .before .args .y) (c .before .before .args .word)) (c .before .match .keys2) (cc)
 
 returns-3 : tie.Need-returns-3
 unfolding traps
