@@ -3,3 +3,4 @@ pub mod Arms
 pub mod Targets
 pub mod Faults
 pub mod Dispatch
+pub mod Named
