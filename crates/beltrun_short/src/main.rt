@@ -1,0 +1,4 @@
+// An input that is one byte short of a ROM.
+fn main() {
+    beltio::run();
+}

@@ -1,0 +1,2 @@
+-- The laws behind the proofs of `belttrace`.
+pub mod Lines

@@ -1,0 +1,3 @@
+-- The definitions of `belttrace`, in the order to read them.
+pub mod Text
+pub mod Trace
