@@ -1,3 +1,5 @@
 -- The definitions of `machine`, in the order to read them.
 pub mod State
 pub mod Step
+pub mod Refusal
+pub mod Run
