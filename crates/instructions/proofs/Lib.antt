@@ -3,4 +3,6 @@ pub mod Arms
 pub mod Targets
 pub mod Faults
 pub mod Dispatch
+pub mod Rows
 pub mod Named
+pub mod Small

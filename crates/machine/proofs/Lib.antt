@@ -3,5 +3,7 @@ pub mod Looks
 pub mod StepLaws
 pub mod PcLaws
 pub mod StepFit
+pub mod RepresentableKept
+pub mod StepRepresentable
 pub mod Named
 pub mod StarredCases

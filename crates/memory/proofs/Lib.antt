@@ -4,4 +4,5 @@ pub mod Outcomes
 pub mod OwnBytes
 pub mod StoreLaws
 pub mod Frames
+pub mod Bytewise
 pub mod Examples

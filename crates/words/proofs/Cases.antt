@@ -1,10 +1,15 @@
--- Cases by a test of two numbers, and equal tests from equivalent orders.
+-- Cases by a test, and equal tests from equivalent orders.
 use mathlib.Core.Path.{_≡_, refl, sym, _∙_}
-use mathlib.Core.Bool.{Bool, true, false}
+use mathlib.Core.Bool.{Bool, true, false, cond}
 use Prim.Native.Nat.{ℕ, _≤_, _<_}
 use native.Mathlib.Omega.{arith}
 use lib.Dec.{ltb, leb}
 use borrow.Author.Tests.{ltb-true, ltb-false, lt-ltb, le-ltb, le-leb, lt-leb}
+
+-- what holds of both holds of the one that is chosen
+pub chosen {ℓ κ} : {A : Type ℓ} (P : A → Type κ) (t : Bool) {x y : A} → P x → P y → P (cond t x y)
+chosen P true h k = h
+chosen P false h k = k
 
 pub below-or-not {ℓ} : {A : Type ℓ} (a b : ℕ) → (a < b → A) → (b ≤ a → A) → A
 below-or-not {A} a b f g = go (ltb a b) refl

@@ -7,5 +7,6 @@ pub mod IntegerDivision
 pub mod Division
 pub mod Shifts
 pub mod BitLaws
+pub mod Sizes
 pub mod Orders
 pub mod Examples

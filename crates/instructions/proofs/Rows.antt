@@ -1,0 +1,67 @@
+-- What holds of every row of the opcode table holds of every instruction.
+use mathlib.Core.List.{List, [], _∷_, _++_, map}
+use Prim.Native.Nat.{ℕ, zero, suc}
+use lib.ListN.{getD}
+use Rattle.instructions.specs.Operands.{Surroundings, Operands, Meaning, simple, illegal, opcodeOf}
+use Rattle.instructions.specs.Compute.{computations}
+use Rattle.instructions.specs.Control.{controls}
+use Rattle.instructions.specs.Transfer.{transfers}
+use Rattle.instructions.specs.System.{traps, systems}
+use Rattle.instructions.specs.Table.{byPsw, meanings, executed}
+use Rattle.instructions.specs.declared.Action.{Action}
+
+-- ---- lists
+
+abbrev pub Every : {A : Type 0} → (A → Type 0) → List A → Type 0
+Every P [] = Unit {0}
+Every P (f ∷ fs) = P f × Every P fs
+
+infixr 5 _&_
+-- the first row, and the rows after it
+abbrev pub _&_ : {A B : Type 0} → A → B → A × B
+a & b = (a, b)
+
+every-at : {A : Type 0} (P : A → Type 0) (l : List A) (n : ℕ) (d : A) → Every P l → P d → P (getD l n d)
+every-at P [] n d h i = i
+every-at P (f ∷ fs) zero d h i = h .0
+every-at P (f ∷ fs) (suc n) d h i = every-at P fs n d (h .1) i
+
+every-append : {A : Type 0} (P : A → Type 0) (l r : List A) → Every P l → Every P r → Every P (l ++ r)
+every-append P [] r h k = k
+every-append P (f ∷ fs) r h k = (h .0, every-append P fs r (h .1) k)
+
+every-map : {A B : Type 0} (g : A → B) (P : B → Type 0) (l : List A) → Every (λ x. P (g x)) l → Every P (map g l)
+every-map g P [] h = tt
+every-map g P (f ∷ fs) h = (h .0, every-map g P fs (h .1))
+
+-- ---- the table
+
+-- the rows from the branches on, and from each later group on
+abbrev fromSystem : List Meaning
+fromSystem = map byPsw systems
+
+abbrev fromTransfers : List Meaning
+fromTransfers = transfers ++ fromSystem
+
+abbrev fromTraps : List Meaning
+fromTraps = map byPsw traps ++ fromTransfers
+
+abbrev fromControls : List Meaning
+fromControls = map simple controls ++ fromTraps
+
+-- of each action that an instruction names
+abbrev pub Always : (Surroundings → Operands → Action → Type 0) → Meaning → Type 0
+Always Q f = (s : Surroundings) (o : Operands) → Q s o (f s o)
+
+module _ (Q : Surroundings → Operands → Action → Type 0) where
+  pub executed-always : Every (λ f. Always Q (simple f)) computations → Every (λ f. Always Q (simple f)) controls
+      → Every (λ f. Always Q (byPsw f)) traps → Every (Always Q) transfers → Every (λ f. Always Q (byPsw f)) systems
+      → Always Q (simple illegal) → Always Q executed
+  unfolding executed meanings
+  executed-always a b c d e none s o =
+      every-at (Always Q) (map simple computations ++ fromControls) (opcodeOf (o .word)) (simple illegal)
+      (every-append (Always Q) (map simple computations) fromControls (every-map simple (Always Q) computations a)
+      (every-append (Always Q) (map simple controls) fromTraps (every-map simple (Always Q) controls b)
+      (every-append (Always Q) (map byPsw traps) fromTransfers (every-map byPsw (Always Q) traps c)
+      (every-append (Always Q) transfers fromSystem d (every-map byPsw (Always Q) systems e)))))
+      none s o
