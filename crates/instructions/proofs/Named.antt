@@ -1,10 +1,9 @@
 -- An instruction that faults names an exception of the manual's table, up to 25.
-use mathlib.Core.Bool.{Bool, true, false, cond}
-use mathlib.Core.List.{List, [], _∷_, _++_, map}
-use Prim.Native.Nat.{ℕ, zero, suc, _≤_}
+use mathlib.Core.Bool.{true, false}
+use Prim.Native.Nat.{ℕ, _≤_}
 use native.Mathlib.Omega.{arith}
 use lib.Dec.{eqb}
-use lib.ListN.{getD}
+use Rattle.words.proofs.Cases.{chosen}
 use Rattle.memory.specs.Map.{Memory}
 use Rattle.memory.specs.Access.{loadOf, storeAnswer}
 use Rattle.memory.specs.declared.Loaded.{Loaded}
@@ -15,16 +14,17 @@ use Rattle.processor.specs.Psw.{userMode}
 use Rattle.processor.specs.Translation.{translated}
 use Rattle.processor.specs.declared.translation.Translation.{Translation}
 use Rattle.processor.specs.declared.translation.Translation.the-variants.{Physical, TlbMiss, TlbWrite, TlbInvalid, IllegalAddress, PrivilegedAddress}
-use Rattle.instructions.specs.Operands.{Surroundings, Operands, Simple, Meaning, simple, illegal, opcodeOf, fieldY}
+use Rattle.instructions.specs.Operands.{Surroundings, Operands, Meaning, simple, fieldY}
 use Rattle.instructions.specs.Compute.{unlessZero, computations}
 use Rattle.instructions.specs.Control.{branch, controls}
 use Rattle.instructions.specs.Transfer.{answered, readThrough, readFrom, addressOf, landed, load, settled, storeThrough, storeTo, transfers}
-use Rattle.instructions.specs.System.{SystemMeaning, privileged, traps, systems}
-use Rattle.instructions.specs.Table.{byPsw, meanings, executed}
+use Rattle.instructions.specs.System.{privileged, traps, systems}
+use Rattle.instructions.specs.Table.{byPsw, executed}
 use Rattle.instructions.specs.declared.Action.{Action}
 use Rattle.instructions.specs.declared.Action.the-variants.{Write, Store, System, Exception}
 use Rattle.instructions.specs.declared.transfer.Read.{Read}
 use Rattle.instructions.specs.declared.transfer.Read.the-variants.{Value, Fault}
+use Rattle.instructions.proofs.Rows.{Every, _&_, Always, executed-always}
 
 -- a fault that is named has a number up to 25
 abbrev pub Named : Action → Type 0
@@ -36,10 +36,6 @@ Named (Exception eid address unused) = eid ≤ 25
 abbrev pub NamedRead : Read → Type 0
 NamedRead (Value v) = Unit {0}
 NamedRead (Fault eid) = eid ≤ 25
-
-picked : (t : Bool) (x y : Action) → Named x → Named y → Named (cond t x y)
-picked true x y h k = h
-picked false x y h k = k
 
 -- ---- reads and stores
 
@@ -69,175 +65,50 @@ store-named width m value address PrivilegedAddress = omega arith
 
 -- ---- each table
 
-abbrev Every : {A : Type 0} → (A → Type 0) → List A → Type 0
-Every P [] = Unit {0}
-Every P (f ∷ fs) = P f × Every P fs
+abbrev Good : Meaning → Type 0
+Good = Always (λ s o a. Named a)
 
-every-at : {A : Type 0} (P : A → Type 0) (l : List A) (n : ℕ) (d : A) → Every P l → P d → P (getD l n d)
-every-at P [] n d h i = i
-every-at P (f ∷ fs) zero d h i = h .0
-every-at P (f ∷ fs) (suc n) d h i = every-at P fs n d (h .1) i
-
-every-append : {A : Type 0} (P : A → Type 0) (l r : List A) → Every P l → Every P r → Every P (l ++ r)
-every-append P [] r h k = k
-every-append P (f ∷ fs) r h k = (h .0, every-append P fs r (h .1) k)
-
-every-map : {A B : Type 0} (g : A → B) (P : B → Type 0) (l : List A) → Every (λ x. P (g x)) l → Every P (map g l)
-every-map g P [] h = tt
-every-map g P (f ∷ fs) h = (h .0, every-map g P fs (h .1))
-
-abbrev pub Good : Meaning → Type 0
-Good f = (s : Surroundings) (o : Operands) → Named (f s o)
-
-divides : (o : Operands) (divisor n v next : ℕ) → Named (unlessZero divisor (Write n v next))
+divides : (divisor n v next : ℕ) → Named (unlessZero divisor (Write n v next))
 unfolding unlessZero
-divides o divisor n v next = picked (eqb divisor 0) _ _ (omega arith) tt
+divides divisor n v next = chosen Named (eqb divisor 0) (omega arith) tt
 
 guarded : (psw opcode z v : ℕ) → Named (privileged psw (System opcode z v))
 unfolding privileged
-guarded psw opcode z v = picked (userMode psw) _ _ (omega arith) tt
+guarded psw opcode z v = chosen Named (userMode psw) (omega arith) tt
 
 computations-good : Every (λ f. Good (simple f)) computations
 unfolding computations
-computations-good = (
-  λ s o. tt,
-  (
-    λ s o. tt,
-    (
-      λ s o. tt,
-      (
-        λ s o. tt,
-        (
-          λ s o. tt,
-          (
-            λ s o. tt,
-            (
-              λ s o. tt,
-              (
-                λ s o. tt,
-                (
-                  λ s o. divides o _ _ _ _,
-                  (
-                    λ s o. divides o _ _ _ _,
-                    (
-                      λ s o. divides o _ _ _ _,
-                      (
-                        λ s o. divides o _ _ _ _,
-                        (
-                          λ s o. divides o _ _ _ _,
-                          (
-                            λ s o. divides o _ _ _ _,
-                            (
-                              λ s o. divides o _ _ _ _,
-                              (
-                                λ s o. divides o _ _ _ _,
-                                (
-                                  λ s o. tt,
-                                  (
-                                    λ s o. tt,
-                                    (
-                                      λ s o. tt,
-                                      (
-                                        λ s o. tt,
-                                        (
-                                          λ s o. tt,
-                                          (
-                                            λ s o. tt,
-                                            (
-                                              λ s o. tt,
-                                              (
-                                                λ s o. tt,
-                                                (
-                                                  λ s o. tt,
-                                                  (
-                                                    λ s o. tt,
-                                                    (
-                                                      λ s o. tt,
-                                                      (
-                                                        λ s o. tt,
-                                                        (
-                                                          λ s o. tt,
-                                                          (
-                                                            λ s o. tt,
-                                                            (
-                                                              λ s o. omega arith,
-                                                              (
-                                                                λ s o. tt,
-                                                                tt,
-                                                              ),
-                                                            ),
-                                                          ),
-                                                        ),
-                                                      ),
-                                                    ),
-                                                  ),
-                                                ),
-                                              ),
-                                            ),
-                                          ),
-                                        ),
-                                      ),
-                                    ),
-                                  ),
-                                ),
-                              ),
-                            ),
-                          ),
-                        ),
-                      ),
-                    ),
-                  ),
-                ),
-              ),
-            ),
-          ),
-        ),
-      ),
-    ),
-  ),
-)
+computations-good =
+    (λ s o. tt) & (λ s o. tt) & (λ s o. tt) & (λ s o. tt)
+    & (λ s o. tt) & (λ s o. tt) & (λ s o. tt) & (λ s o. tt)
+    & (λ s o. divides _ _ _ _) & (λ s o. divides _ _ _ _) & (λ s o. divides _ _ _ _) & (λ s o. divides _ _ _ _)
+    & (λ s o. divides _ _ _ _) & (λ s o. divides _ _ _ _) & (λ s o. divides _ _ _ _) & (λ s o. divides _ _ _ _)
+    & (λ s o. tt) & (λ s o. tt) & (λ s o. tt) & (λ s o. tt)
+    & (λ s o. tt) & (λ s o. tt) & (λ s o. tt) & (λ s o. tt)
+    & (λ s o. tt) & (λ s o. tt) & (λ s o. tt) & (λ s o. tt)
+    & (λ s o. tt) & (λ s o. tt) & (λ s o. omega arith) & (λ s o. tt)
+    & tt
 
 controls-good : Every (λ f. Good (simple f)) controls
 unfolding controls branch
-controls-good = (
-  λ s o. tt,
-  (
-    λ s o. tt,
-    (
-      λ s o. tt,
-      (
-        λ s o. tt,
-        (
-          λ s o. tt,
-          (
-            λ s o. tt,
-            (
-              λ s o. tt,
-              (λ s o. tt, (λ s o. tt, (λ s o. tt, (λ s o. tt, (λ s o. tt, (λ s o. tt, (λ s o. tt, tt))))))),
-            ),
-          ),
-        ),
-      ),
-    ),
-  ),
-)
+controls-good =
+    (λ s o. tt) & (λ s o. tt) & (λ s o. tt) & (λ s o. tt)
+    & (λ s o. tt) & (λ s o. tt) & (λ s o. tt) & (λ s o. tt)
+    & (λ s o. tt) & (λ s o. tt) & (λ s o. tt) & (λ s o. tt)
+    & (λ s o. tt) & (λ s o. tt)
+    & tt
 
 traps-good : Every (λ f. Good (byPsw f)) traps
 unfolding traps
-traps-good = (λ s o. omega arith, (λ s o. guarded (s .psw) _ _ _, tt))
+traps-good = (λ s o. omega arith) & (λ s o. guarded (s .psw) _ _ _) & tt
 
 systems-good : Every (λ f. Good (byPsw f)) systems
 unfolding systems
-systems-good = (
-  λ s o. guarded (s .psw) _ _ _,
-  (
-    λ s o. guarded (s .psw) _ _ _,
-    (
-      λ s o. guarded (s .psw) _ _ _,
-      (λ s o. guarded (s .psw) _ _ _, (λ s o. guarded (s .psw) _ _ _, (λ s o. guarded (s .psw) _ _ _, tt))),
-    ),
-  ),
-)
+systems-good =
+    (λ s o. guarded (s .psw) _ _ _) & (λ s o. guarded (s .psw) _ _ _)
+    & (λ s o. guarded (s .psw) _ _ _) & (λ s o. guarded (s .psw) _ _ _)
+    & (λ s o. guarded (s .psw) _ _ _) & (λ s o. guarded (s .psw) _ _ _)
+    & tt
 
 landed-named : (extend : ℕ → ℕ) (number address next : ℕ) (r : Read) → NamedRead r → Named (landed extend number address next r)
 landed-named extend number address next (Value v) h = tt
@@ -256,42 +127,13 @@ stores-good width s value address =
 
 transfers-good : Every Good transfers
 unfolding transfers
-transfers-good = (
-  loads-good 4 _,
-  (
-    loads-good 2 _,
-    (
-      loads-good 2 _,
-      (
-        loads-good 1 _,
-        (
-          loads-good 1 _,
-          (λ s o. stores-good 4 s (o .y) (addressOf o), (λ s o. stores-good 2 s (o .y) (addressOf o), (λ s o. stores-good 1 s (o .y) (addressOf o), tt))),
-        ),
-      ),
-    ),
-  ),
-)
+transfers-good =
+    loads-good 4 _ & loads-good 2 _ & loads-good 2 _ & loads-good 1 _ & loads-good 1 _
+    & (λ s o. stores-good 4 s (o .y) (addressOf o))
+    & (λ s o. stores-good 2 s (o .y) (addressOf o))
+    & (λ s o. stores-good 1 s (o .y) (addressOf o))
+    & tt
 
--- the rows of the table from the branches on, and from each later group on
-abbrev fromSystem : List Meaning
-fromSystem = map byPsw systems
-
-abbrev fromTransfers : List Meaning
-fromTransfers = transfers ++ fromSystem
-
-abbrev fromTraps : List Meaning
-fromTraps = map byPsw traps ++ fromTransfers
-
-abbrev fromControls : List Meaning
-fromControls = map simple controls ++ fromTraps
-
-pub executed-named : Good executed
-unfolding executed meanings
-executed-named s o =
-    every-at Good (map simple computations ++ fromControls) (opcodeOf (o .word)) (simple illegal)
-    (every-append Good (map simple computations) fromControls (every-map simple Good computations computations-good)
-    (every-append Good (map simple controls) fromTraps (every-map simple Good controls controls-good)
-    (every-append Good (map byPsw traps) fromTransfers (every-map byPsw Good traps traps-good)
-    (every-append Good transfers fromSystem transfers-good (every-map byPsw Good systems systems-good)))))
-    (λ s o. omega arith) s o
+pub executed-named : (s : Surroundings) (o : Operands) → Named (executed s o)
+executed-named =
+    executed-always (λ s o a. Named a) computations-good controls-good traps-good transfers-good systems-good (λ s o. omega arith)

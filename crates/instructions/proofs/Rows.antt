@@ -21,7 +21,7 @@ infixr 5 _&_
 abbrev pub _&_ : {A B : Type 0} → A → B → A × B
 a & b = (a, b)
 
-every-at : {A : Type 0} (P : A → Type 0) (l : List A) (n : ℕ) (d : A) → Every P l → P d → P (getD l n d)
+pub every-at : {A : Type 0} (P : A → Type 0) (l : List A) (n : ℕ) (d : A) → Every P l → P d → P (getD l n d)
 every-at P [] n d h i = i
 every-at P (f ∷ fs) zero d h i = h .0
 every-at P (f ∷ fs) (suc n) d h i = every-at P fs n d (h .1) i

@@ -1,12 +1,12 @@
 -- Where the PC goes: a completed instruction goes on from its fetch, but for control flow and RFX.
 use mathlib.Core.Path.{_≡_, refl}
-use mathlib.Core.Bool.{Bool, true, false, cond}
-use mathlib.Core.List.{List, [], _∷_}
-use Prim.Native.Nat.{ℕ, zero, suc}
+use mathlib.Core.Bool.{cond}
+use Prim.Native.Nat.{ℕ}
 use lib.Dec.{eqb}
 use lib.ListN.{getD}
 use borrow.Author.Tests.{ne-eqb}
 use Rattle.words.specs.Computation.{sum}
+use Rattle.words.proofs.Cases.{chosen}
 use Rattle.processor.specs.declared.Processor.{Processor}
 use Rattle.processor.specs.Exception.{returned}
 use Rattle.processor.specs.Register.{written, jumped, special, specialWritten}
@@ -18,6 +18,7 @@ use Rattle.instructions.specs.declared.transfer.Read.{Read}
 use Rattle.instructions.specs.declared.transfer.Read.the-variants.{Value, Fault}
 use Rattle.instructions.specs.declared.Action.{Action}
 use Rattle.instructions.specs.declared.Action.the-variants.{Write, Store, System, Exception}
+use Rattle.instructions.proofs.Rows.{Every, _&_, every-at}
 use Rattle.machine.specs.Step.{systemDone, processorAfter}
 
 -- ---- the PC of a completed computation is that after the fetch
@@ -29,128 +30,28 @@ GoesOn o (Store width physical v) = ⊥
 GoesOn o (System opcode z v) = ⊥
 GoesOn o (Exception eid address unused) = Unit {0}
 
-abbrev Every : (Simple → Type 0) → List Simple → Type 0
-Every P [] = Unit {0}
-Every P (f ∷ fs) = P f × Every P fs
-
-every-at : (P : Simple → Type 0) (l : List Simple) (n : ℕ) → Every P l → P illegal → P (getD l n illegal)
-every-at P [] n h i = i
-every-at P (f ∷ fs) zero h i = h .0
-every-at P (f ∷ fs) (suc n) h i = every-at P fs n (h .1) i
-
 unless-goes-on : (o : Operands) (divisor : ℕ) (a : Action) → GoesOn o a → GoesOn o (unlessZero divisor a)
 unfolding unlessZero
-unless-goes-on o divisor a h = go (eqb divisor 0)
-  where
-    go : (t : Bool) → GoesOn o (cond t (Exception 19 0 0) a)
-    go true = tt
-    go false = h
+unless-goes-on o divisor a h = chosen (GoesOn o) (eqb divisor 0) tt h
 
 abbrev Goes : Simple → Type 0
 Goes f = (o : Operands) → GoesOn o (f o)
 
 every-computation : Every Goes computations
 unfolding computations
-every-computation = (
-  λ o. refl,
-  (
-    λ o. refl,
-    (
-      λ o. refl,
-      (
-        λ o. refl,
-        (
-          λ o. refl,
-          (
-            λ o. refl,
-            (
-              λ o. refl,
-              (
-                λ o. refl,
-                (
-                  λ o. unless-goes-on o _ _ refl,
-                  (
-                    λ o. unless-goes-on o _ _ refl,
-                    (
-                      λ o. unless-goes-on o _ _ refl,
-                      (
-                        λ o. unless-goes-on o _ _ refl,
-                        (
-                          λ o. unless-goes-on o _ _ refl,
-                          (
-                            λ o. unless-goes-on o _ _ refl,
-                            (
-                              λ o. unless-goes-on o _ _ refl,
-                              (
-                                λ o. unless-goes-on o _ _ refl,
-                                (
-                                  λ o. refl,
-                                  (
-                                    λ o. refl,
-                                    (
-                                      λ o. refl,
-                                      (
-                                        λ o. refl,
-                                        (
-                                          λ o. refl,
-                                          (
-                                            λ o. refl,
-                                            (
-                                              λ o. refl,
-                                              (
-                                                λ o. refl,
-                                                (
-                                                  λ o. refl,
-                                                  (
-                                                    λ o. refl,
-                                                    (
-                                                      λ o. refl,
-                                                      (
-                                                        λ o. refl,
-                                                        (
-                                                          λ o. refl,
-                                                          (
-                                                            λ o. refl,
-                                                            (
-                                                              λ o. tt,
-                                                              (
-                                                                λ o. refl,
-                                                                tt,
-                                                              ),
-                                                            ),
-                                                          ),
-                                                        ),
-                                                      ),
-                                                    ),
-                                                  ),
-                                                ),
-                                              ),
-                                            ),
-                                          ),
-                                        ),
-                                      ),
-                                    ),
-                                  ),
-                                ),
-                              ),
-                            ),
-                          ),
-                        ),
-                      ),
-                    ),
-                  ),
-                ),
-              ),
-            ),
-          ),
-        ),
-      ),
-    ),
-  ),
-)
+every-computation =
+    (λ o. refl) & (λ o. refl) & (λ o. refl) & (λ o. refl)
+    & (λ o. refl) & (λ o. refl) & (λ o. refl) & (λ o. refl)
+    & (λ o. unless-goes-on o _ _ refl) & (λ o. unless-goes-on o _ _ refl) & (λ o. unless-goes-on o _ _ refl) & (λ o. unless-goes-on o _ _ refl)
+    & (λ o. unless-goes-on o _ _ refl) & (λ o. unless-goes-on o _ _ refl) & (λ o. unless-goes-on o _ _ refl) & (λ o. unless-goes-on o _ _ refl)
+    & (λ o. refl) & (λ o. refl) & (λ o. refl) & (λ o. refl)
+    & (λ o. refl) & (λ o. refl) & (λ o. refl) & (λ o. refl)
+    & (λ o. refl) & (λ o. refl) & (λ o. refl) & (λ o. refl)
+    & (λ o. refl) & (λ o. refl) & (λ o. tt) & (λ o. refl)
+    & tt
 
 pub computation-goes-on : (opcode : ℕ) (o : Operands) → GoesOn o (getD computations opcode illegal o)
-computation-goes-on opcode o = every-at Goes computations opcode every-computation (λ o. tt) o
+computation-goes-on opcode o = every-at Goes computations opcode illegal every-computation (λ o. tt) o
 
 -- so does a load that completes
 landed-goes-on : (extend : ℕ → ℕ) (o : Operands) (r : Read) → GoesOn o (landed extend (fieldY (o .word)) (addressOf o) (o .next) r)
@@ -169,10 +70,6 @@ store-goes-on p width physical v = refl
 -- as a record, so that the processor can be read off it
 record PcIs (q : ℕ) (p : Processor) : Type 0 where
   is : p .pc ≡ q
-
-pub chosen : (P : Processor → Type 0) (t : Bool) {x y : Processor} → P x → P y → P (cond t x y)
-chosen P true h k = h
-chosen P false h k = k
 
 pub system-goes-on : (p : Processor) (opcode z v : ℕ) → (opcode ≡ 0x2F → ⊥) → systemDone opcode z v p .pc ≡ sum (p .pc) 4
 unfolding systemDone written jumped specialWritten searched randomWritten indexedWritten entryWritten entryRead

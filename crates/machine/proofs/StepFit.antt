@@ -2,6 +2,7 @@
 use Prim.Native.Nat.{ℕ}
 use lib.Dec.{eqb}
 use Rattle.words.specs.Computation.{sum}
+use Rattle.words.proofs.Cases.{chosen}
 use Rattle.processor.specs.declared.Processor.{Processor}
 use Rattle.processor.specs.Register.{jumped, special}
 use Rattle.processor.proofs.FitLaws.{Fit}
@@ -10,7 +11,6 @@ use Rattle.instructions.specs.declared.Action.{Action}
 use Rattle.instructions.specs.declared.Action.the-variants.{Write, Store, System, Exception}
 use Rattle.machine.specs.State.{Machine}
 use Rattle.machine.specs.Step.{look, systemDone, processorAfter, stepOf}
-use Rattle.machine.proofs.PcLaws.{chosen}
 
 module _ (p : Processor) (f : Fit p) where
   system-fit : (opcode z v : ℕ) → Fit (systemDone opcode z v p)
