@@ -2,6 +2,7 @@
 use mathlib.Core.List.{List, [], _∷_, _++_, map}
 use Prim.Native.Nat.{ℕ, zero, suc}
 use lib.ListN.{getD}
+use Rattle.words.specs.Lists.{Every}
 use Rattle.instructions.specs.Operands.{Surroundings, Operands, Meaning, simple, illegal, opcodeOf}
 use Rattle.instructions.specs.Compute.{computations}
 use Rattle.instructions.specs.Control.{controls}
@@ -11,10 +12,6 @@ use Rattle.instructions.specs.Table.{byPsw, meanings, executed}
 use Rattle.instructions.specs.declared.Action.{Action}
 
 -- ---- lists
-
-abbrev pub Every : {A : Type 0} → (A → Type 0) → List A → Type 0
-Every P [] = Unit {0}
-Every P (f ∷ fs) = P f × Every P fs
 
 infixr 5 _&_
 -- the first row, and the rows after it
@@ -49,6 +46,18 @@ fromTraps = map byPsw traps ++ fromTransfers
 abbrev fromControls : List Meaning
 fromControls = map simple controls ++ fromTraps
 
+module _ (P : Meaning → Type 0) where
+  pub row-at : Every (λ f. P (simple f)) computations → Every (λ f. P (simple f)) controls → Every (λ f. P (byPsw f)) traps
+      → Every P transfers → Every (λ f. P (byPsw f)) systems → P (simple illegal) → (n : ℕ) → P (getD meanings n (simple illegal))
+  unfolding meanings
+  row-at a b c d e none n =
+      every-at P (map simple computations ++ fromControls) n (simple illegal)
+      (every-append P (map simple computations) fromControls (every-map simple P computations a)
+      (every-append P (map simple controls) fromTraps (every-map simple P controls b)
+      (every-append P (map byPsw traps) fromTransfers (every-map byPsw P traps c)
+      (every-append P transfers fromSystem d (every-map byPsw P systems e)))))
+      none
+
 -- of each action that an instruction names
 abbrev pub Always : (Surroundings → Operands → Action → Type 0) → Meaning → Type 0
 Always Q f = (s : Surroundings) (o : Operands) → Q s o (f s o)
@@ -57,11 +66,5 @@ module _ (Q : Surroundings → Operands → Action → Type 0) where
   pub executed-always : Every (λ f. Always Q (simple f)) computations → Every (λ f. Always Q (simple f)) controls
       → Every (λ f. Always Q (byPsw f)) traps → Every (Always Q) transfers → Every (λ f. Always Q (byPsw f)) systems
       → Always Q (simple illegal) → Always Q executed
-  unfolding executed meanings
-  executed-always a b c d e none s o =
-      every-at (Always Q) (map simple computations ++ fromControls) (opcodeOf (o .word)) (simple illegal)
-      (every-append (Always Q) (map simple computations) fromControls (every-map simple (Always Q) computations a)
-      (every-append (Always Q) (map simple controls) fromTraps (every-map simple (Always Q) controls b)
-      (every-append (Always Q) (map byPsw traps) fromTransfers (every-map byPsw (Always Q) traps c)
-      (every-append (Always Q) transfers fromSystem d (every-map byPsw (Always Q) systems e)))))
-      none s o
+  unfolding executed
+  executed-always a b c d e none s o = row-at (Always Q) a b c d e none (opcodeOf (o .word)) s o

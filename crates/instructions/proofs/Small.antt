@@ -27,7 +27,8 @@ use Rattle.instructions.specs.declared.Action.{Action}
 use Rattle.instructions.specs.declared.Action.the-variants.{Write, Store, System, Exception}
 use Rattle.instructions.specs.declared.transfer.Read.{Read}
 use Rattle.instructions.specs.declared.transfer.Read.the-variants.{Value, Fault}
-use Rattle.instructions.proofs.Rows.{Every, _&_, Always, executed-always}
+use Rattle.words.specs.Lists.{Every}
+use Rattle.instructions.proofs.Rows.{_&_, Always, executed-always}
 
 -- what a step takes from an action into a register is a word; a store takes bytes of its value
 abbrev pub Small : Action → Type 0

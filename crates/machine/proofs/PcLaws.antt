@@ -18,7 +18,8 @@ use Rattle.instructions.specs.declared.transfer.Read.{Read}
 use Rattle.instructions.specs.declared.transfer.Read.the-variants.{Value, Fault}
 use Rattle.instructions.specs.declared.Action.{Action}
 use Rattle.instructions.specs.declared.Action.the-variants.{Write, Store, System, Exception}
-use Rattle.instructions.proofs.Rows.{Every, _&_, every-at}
+use Rattle.words.specs.Lists.{Every}
+use Rattle.instructions.proofs.Rows.{_&_, every-at}
 use Rattle.machine.specs.Step.{systemDone, processorAfter}
 
 -- ---- the PC of a completed computation is that after the fetch

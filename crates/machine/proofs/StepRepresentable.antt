@@ -1,4 +1,4 @@
--- A step and a run keep a machine representable.
+-- A step keeps a machine representable.
 use mathlib.Core.Bool.{Bool}
 use mathlib.Core.List.{List}
 use Prim.Native.Nat.{ℕ, zero, suc, _^_, _<_}
@@ -21,9 +21,7 @@ use Rattle.instructions.specs.declared.transfer.Read.{Read}
 use Rattle.instructions.specs.declared.transfer.Read.the-variants.{Value, Fault}
 use Rattle.instructions.proofs.Small.{Small, Words, executed-small}
 use Rattle.machine.specs.State.{Machine, Bytes, Representable}
-use Rattle.machine.specs.Step.{surroundingsOf, operandsOf, decoded, lookFrom, look, systemDone, storeWidth, done, stepOf, stepEid}
-use Rattle.machine.specs.Run.{Outcome, ends, runFrom, runOf}
-use Rattle.machine.specs.Refusal.{runRefusal}
+use Rattle.machine.specs.Step.{surroundingsOf, operandsOf, decoded, lookFrom, look, systemDone, storeWidth, done, stepOf}
 use Rattle.machine.proofs.RepresentableKept.{having, special-lt, entered-representable, returned-representable, written-representable, jumped-representable, special-representable, indexed-representable, random-representable, read-representable, searched-representable}
 
 -- past the end of a list the byte is 0
@@ -102,22 +100,8 @@ module _ (m : Machine) (r : Representable m) where
   done-representable (System opcode z v) h = system-representable opcode z v h
   done-representable (Exception eid address unused) h = entered-representable m r eid address h
 
--- ---- the step and the run
+-- ---- the step
 
 pub step-representable : (m : Machine) (lines : ℕ) → Representable m → Representable (stepOf m lines)
 unfolding stepOf
 step-representable m lines r = done-representable m r (look m lines) (look-small m r lines)
-
-pub run-representable : (kind : Bool) (n made : ℕ) (m : Machine) (lines : ℕ) → Representable m
-    → Representable (runFrom kind n made m lines .machine)
-unfolding runFrom
-run-representable kind zero made m lines r = r
-run-representable kind (suc n) made m lines r =
-    chosen (λ (o : Outcome). Representable (o .machine)) (ends kind (stepEid m lines)) (step-representable m lines r)
-    (run-representable kind n (suc made) (stepOf m lines) lines (step-representable m lines r))
-
-pub runOf-representable : (kind : Bool) (m : Machine) (wanted lines : ℕ) → Representable m
-    → Representable (runOf kind m wanted lines .machine)
-unfolding runOf
-runOf-representable kind m wanted lines r =
-    chosen (λ (o : Outcome). Representable (o .machine)) (eqb (runRefusal m wanted) 0) (run-representable kind wanted 0 m lines r) r

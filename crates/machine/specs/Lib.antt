@@ -1,5 +1,3 @@
 -- The definitions of `machine`, in the order to read them.
 pub mod State
 pub mod Step
-pub mod Refusal
-pub mod Run

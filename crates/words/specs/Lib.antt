@@ -3,3 +3,4 @@ pub mod Numbers
 pub mod Computation
 pub mod Comparison
 pub mod Logic
+pub mod Lists

@@ -3,9 +3,9 @@ use mathlib.Core.Bool.{Bool, true, false, cond}
 use Prim.Native.Nat.{ℕ, zero, suc}
 use lib.Dec.{ltb, eqb}
 use Rattle.words.specs.Logic.{both}
 use Rattle.machine.specs.State.{Machine}
 use Rattle.machine.specs.Step.{stepOf, stepEid}
-use Rattle.machine.specs.Refusal.{runRefusal}
+use Rattle.runs.specs.Refusal.{runRefusal}
 
 -- the kinds: whether an accepted exception ends the run
 abbrev pub plain : Bool

@@ -1,0 +1,197 @@
+-- One step in User Mode: what it keeps, and that two machines that are alike stay so.
+use mathlib.Core.Path.{_≡_, refl, ap, ap₂, sym, subst, _∙_}
+use mathlib.Core.Bool.{Bool, true, false, cond, true≢false}
+use mathlib.Core.List.{List}
+use Prim.Native.Nat.{ℕ, _+_, _<_}
+use lib.Dec.{ltb}
+use lib.ListN.{getD}
+use Rattle.memory.specs.Map.{Memory, byteAt}
+use Rattle.memory.specs.Access.{memoryAfter}
+use Rattle.memory.proofs.OwnBytes.{Apart}
+use Rattle.memory.proofs.StoreLaws.{store-lengths, store-rom, store-keeps}
+use Rattle.processor.specs.Psw.{userMode, pushed}
+use Rattle.processor.specs.Interrupt.{channel}
+use Rattle.processor.specs.Tlb.{lookup}
+use Rattle.processor.specs.Translation.{valid, writable, frameOf}
+use Rattle.processor.specs.Exception.{entered, entryHighAfter, badAddressAfter}
+use Rattle.processor.specs.Register.{written, jumped}
+use Rattle.processor.specs.declared.Processor.{Processor}
+use Rattle.processor.proofs.PswLaws.{pushed-kernel}
+use Rattle.processor.proofs.Granted.{user-granted}
+use Rattle.instructions.specs.Transfer.{readFrom}
+use Rattle.instructions.specs.declared.Action.{Action}
+use Rattle.instructions.specs.declared.Action.the-variants.{Write, Store, System, Exception}
+use Rattle.instructions.specs.declared.transfer.Read.{Read}
+use Rattle.instructions.specs.declared.transfer.Read.the-variants.{Value, Fault}
+use Rattle.machine.specs.State.{Machine}
+use Rattle.machine.specs.Step.{surroundingsOf, operandsOf, decoded, lookFrom, look, storeWidth, processorAfter, memoryDone, done, stepOf, stepEid, eidOf}
+use Rattle.isolation.specs.Frames.{frameAt, lowWord, ValidUserPage, Reached, ReachedWritable, SameIn}
+use Rattle.isolation.specs.Trace.{inUserMode}
+use Rattle.isolation.specs.Claim.{Specials, specialsOf, Left, Held, Alike}
+use Rattle.isolation.proofs.UserActions.{GrantedStore, UserAction, executed-user}
+use Rattle.isolation.proofs.SameLooks.{byte-writable, look-same}
+use Rattle.isolation.proofs.SameStores.{store-same}
+
+-- ---- the look in User Mode
+
+decoded-user : (m : Machine) → inUserMode m ≡ true → (r : Read)
+    → UserAction (surroundingsOf m) (decoded (surroundingsOf m) (m .processor .registers) (m .processor .pc) r)
+decoded-user m user (Value word) = executed-user (surroundingsOf m) user (operandsOf (m .processor .registers) (m .processor .pc) word)
+decoded-user m user (Fault eid) = tt
+
+pub look-user : (m : Machine) (lines : ℕ) → inUserMode m ≡ true → UserAction (surroundingsOf m) (look m lines)
+unfolding look lookFrom
+look-user m lines user =
+    go (ltb (channel (m .processor .psw) lines) 32)
+  where
+    go : (t : Bool) → UserAction (surroundingsOf m)
+        (cond t (Exception (channel (m .processor .psw) lines) 0 0)
+        (decoded (surroundingsOf m) (m .processor .registers) (m .processor .pc) (readFrom 4 (surroundingsOf m) (m .processor .pc))))
+    go true = tt
+    go false = decoded-user m user (readFrom 4 (surroundingsOf m) (m .processor .pc))
+
+-- ---- integrity
+
+-- what entry makes of the special registers
+enteredSpecials : ℕ → ℕ → Specials → Specials
+enteredSpecials eid address s =
+    record {
+      psw = pushed (s .psw) eid;
+      index = s .index;
+      entryhigh = entryHighAfter eid address (s .entryhigh);
+      entrylow = s .entrylow;
+      badaddress = badAddressAfter eid address (s .badaddress);
+    }
+
+-- the TLB alone decides what is reached
+module _ (p q : Processor) (high : p .tlbhigh ≡ q .tlbhigh) (low : p .tlblow ≡ q .tlblow) where
+  same-low : (page : ℕ) → lowWord q page ≡ lowWord p page
+  same-low page = sym (ap₂ (λ (h l : List ℕ). getD l (lookup h page) 0) high low)
+
+  page-by-tlb : (page frame : ℕ) → ValidUserPage p page frame → ValidUserPage q page frame
+  page-by-tlb page frame v =
+      record {
+        user = v .user;
+        entry = subst (λ (h : List ℕ). lookup h page < 32) high (v .entry);
+        allowed = ap valid (same-low page) ∙ v .allowed;
+        names = ap frameOf (same-low page) ∙ v .names;
+      }
+
+  reached-by-tlb : (frame : ℕ) → Reached p frame → Reached q frame
+  reached-by-tlb frame (page, v) = (page, page-by-tlb page frame v)
+
+  writable-by-tlb : (frame : ℕ) → ReachedWritable p frame → ReachedWritable q frame
+  writable-by-tlb frame (page, v, w) = (page, page-by-tlb page frame v, ap writable (same-low page) ∙ w)
+
+module _ (start m : Machine) (held : Held start m) (user : inUserMode m ≡ true) (lines : ℕ) where
+  -- a granted store keeps every frame that is not reached writable
+  stored : (width physical v : ℕ) → GrantedStore (surroundingsOf m) width physical
+      → SameIn (λ frame. ReachedWritable (start .processor) frame → ⊥) (memoryAfter (storeWidth width) (m .memory) physical v) (start .memory)
+  stored width physical v g =
+      let l = store-lengths width (m .memory) physical v in
+      let granted = user-granted (m .processor .psw) (m .processor .tlbhigh) (m .processor .tlblow) width true (g .address) physical user (g .granted) in
+      subst (λ (w : ℕ). SameIn (λ frame. ReachedWritable (start .processor) frame → ⊥) (memoryAfter w (m .memory) physical v) (start .memory)) (sym (g .own))
+      (record {
+        ram = l .0 ∙ held .frames .ram;
+        rom = l .1 ∙ held .frames .rom;
+        belt = l .2 ∙ held .frames .belt;
+        bytes = λ j not.
+            store-keeps width (m .memory) physical v j
+            (λ i h e. not (writable-by-tlb (m .processor) (start .processor) (held .tlbhigh) (held .tlblow) (frameAt j)
+            (subst (λ (a : ℕ). ReachedWritable (m .processor) (frameAt a)) (sym e)
+            (byte-writable (m .processor) width (g .blocks) true (g .address) physical (g .divides) granted refl i h))))
+            ∙ held .frames .bytes j not;
+      })
+
+  held-after : (a : Action) → UserAction (surroundingsOf m) a → look m lines ≡ a → Held start (done m a)
+  unfolding written jumped entered enteredSpecials
+  held-after (Write n v next) u e =
+      record {
+        tlbhigh = held .tlbhigh;
+        tlblow = held .tlblow;
+        replacement = held .replacement;
+        rom = held .rom;
+        frames = held .frames;
+        staying = λ _. held .staying user;
+        leaving = λ no. absurd (true≢false (sym user ∙ no));
+      }
+  held-after (Store width physical v) u e =
+      record {
+        tlbhigh = held .tlbhigh;
+        tlblow = held .tlblow;
+        replacement = held .replacement;
+        rom = store-rom (storeWidth width) (m .memory) physical v ∙ held .rom;
+        frames = stored width physical v u;
+        staying = λ _. held .staying user;
+        leaving = λ no. absurd (true≢false (sym user ∙ no));
+      }
+  held-after (System opcode z v) u e = absurd u
+  held-after (Exception eid address unused) u e =
+      record {
+        tlbhigh = held .tlbhigh;
+        tlblow = held .tlblow;
+        replacement = held .replacement;
+        rom = held .rom;
+        frames = held .frames;
+        staying = λ yes. absurd (true≢false (sym yes ∙ pushed-kernel (m .processor .psw) eid));
+        leaving = λ _. record {
+          before = m;
+          lines = lines;
+          eid = eid;
+          address = address;
+          unused = unused;
+          kept = held .staying user;
+          named = e;
+          processor = refl;
+          specials = ap (enteredSpecials eid address) (held .staying user);
+        };
+      }
+
+  pub step-held : Held start (stepOf m lines)
+  unfolding stepOf
+  step-held = held-after (look m lines) (look-user m lines user) refl
+
+-- ---- confidentiality
+
+memory-alike : (F : ℕ → Type 0) (m n : Memory) → SameIn F m n → (a : Action) → SameIn F (memoryDone m a) (memoryDone n a)
+memory-alike F m n same (Write r v next) = same
+memory-alike F m n same (Store width physical v) = store-same (storeWidth width) physical v F m n same
+memory-alike F m n same (System opcode z v) = same
+memory-alike F m n same (Exception eid address unused) = same
+
+module _ (q : Processor) (m n : Machine) (alike : Alike q m n)
+    (high : m .processor .tlbhigh ≡ q .tlbhigh) (low : m .processor .tlblow ≡ q .tlblow)
+    (user : inUserMode m ≡ true) (apart : Apart (m .memory)) (apart′ : Apart (n .memory)) (lines : ℕ) where
+  -- the second memory with the first processor, which is the second machine
+  abbrev n′ : Machine
+  n′ = record { processor = m .processor; memory = n .memory }
+
+  n-is : n′ ≡ n
+  n-is = λ i. record { processor = alike .processor i; memory = n .memory }
+
+  abbrev own : SameIn (Reached (m .processor)) (m .memory) (n .memory)
+  own =
+      record {
+        ram = alike .frames .ram;
+        rom = alike .frames .rom;
+        belt = alike .frames .belt;
+        bytes = λ j r. alike .frames .bytes j (reached-by-tlb (m .processor) q high low (frameAt j) r);
+      }
+
+  pub look-alike : look m lines ≡ look n lines
+  look-alike =
+      look-same (m .processor) user (m .memory) (n .memory) apart apart′ own lines
+      ∙ ap (λ (k : Machine). look k lines) n-is
+
+  pub eid-alike : stepEid m lines ≡ stepEid n lines
+  unfolding stepEid
+  eid-alike = ap eidOf look-alike
+
+  pub step-alike : Alike q (stepOf m lines) (stepOf n lines)
+  unfolding stepOf
+  step-alike =
+      record {
+        processor = ap₂ processorAfter (alike .processor) look-alike;
+        frames = subst (λ (a : Action). SameIn (Reached q) (memoryDone (m .memory) (look m lines)) (memoryDone (n .memory) a)) look-alike
+            (memory-alike (Reached q) (m .memory) (n .memory) (alike .frames) (look m lines));
+      }

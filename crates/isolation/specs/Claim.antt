@@ -1,0 +1,78 @@
+-- What isolation says of a list of runs (document 01, "Runs and views", last three paragraphs; demand 3).
+use mathlib.Core.Path.{_≡_}
+use mathlib.Core.Bool.{true, false}
+use mathlib.Core.List.{List}
+use Prim.Native.Nat.{ℕ}
+use Rattle.memory.specs.Map.{byteAt}
+use Rattle.processor.specs.declared.Processor.{Processor}
+use Rattle.processor.specs.Exception.{entered}
+use Rattle.instructions.specs.declared.Action.the-variants.{Exception}
+use Rattle.machine.specs.State.{Machine, Representable}
+use Rattle.machine.specs.Step.{look}
+use Rattle.isolation.specs.Frames.{frameAt, Reached, ReachedWritable, SameIn}
+use Rattle.words.specs.Lists.{Every, Pairwise}
+use Rattle.isolation.specs.Trace.{Call, inUserMode, traceOf, upToLeaving, answersOf}
+
+-- the special registers
+pub record Specials : Type 0 where
+  pub psw : ℕ
+  pub index : ℕ
+  pub entryhigh : ℕ
+  pub entrylow : ℕ
+  pub badaddress : ℕ
+
+abbrev pub specialsOf : Processor → Specials
+specialsOf p =
+    record {
+      psw = p .psw;
+      index = p .index;
+      entryhigh = p .entryhigh;
+      entrylow = p .entrylow;
+      badaddress = p .badaddress;
+    }
+
+-- ---- integrity
+
+-- right after the leaving step: a step of a machine with the start's special registers named an exception, and they are what entry makes
+-- of them
+pub record Left (start m : Machine) : Type 0 where
+  pub before : Machine
+  pub lines : ℕ
+  pub eid : ℕ
+  pub address : ℕ
+  pub unused : ℕ
+  pub kept : specialsOf (before .processor) ≡ specialsOf (start .processor)
+  pub named : look before lines ≡ Exception eid address unused
+  pub processor : m .processor ≡ entered (before .processor) eid address
+  pub specials : specialsOf (m .processor) ≡ specialsOf (entered (start .processor) eid address)
+
+-- a machine of the trace against the start
+pub record Held (start m : Machine) : Type 0 where
+  pub tlbhigh : m .processor .tlbhigh ≡ start .processor .tlbhigh
+  pub tlblow : m .processor .tlblow ≡ start .processor .tlblow
+  pub replacement : m .processor .replacement ≡ start .processor .replacement
+  pub rom : m .memory .rom ≡ start .memory .rom
+  pub frames : SameIn (λ frame. ReachedWritable (start .processor) frame → ⊥) (m .memory) (start .memory)
+  pub staying : inUserMode m ≡ true → specialsOf (m .processor) ≡ specialsOf (start .processor)
+  pub leaving : inUserMode m ≡ false → Left start m
+
+abbrev pub Integrity : List Call → Machine → Type 0
+Integrity calls start = Every (Held start) (upToLeaving (traceOf calls start))
+
+-- ---- confidentiality
+
+-- equal processor states and sizes, and equal bytes in the frames that p reaches
+pub record Alike (p : Processor) (m n : Machine) : Type 0 where
+  pub processor : m .processor ≡ n .processor
+  pub frames : SameIn (Reached p) (m .memory) (n .memory)
+
+-- after each step up to the leaving one the two are alike, and the runs that end by then give equal answers
+pub record Confidential (calls : List Call) (start twin : Machine) : Type 0 where
+  pub steps : Pairwise (Alike (start .processor)) (upToLeaving (traceOf calls start)) (upToLeaving (traceOf calls twin))
+  pub answers : answersOf calls start ≡ answersOf calls twin
+
+-- ---- both, of one list
+
+pub record Isolated (calls : List Call) (start : Machine) : Type 0 where
+  pub integrity : Integrity calls start
+  pub confidentiality : (twin : Machine) → Representable twin → Alike (start .processor) start twin → Confidential calls start twin

@@ -1,0 +1,3 @@
+-- The laws of `runs`, in the order to read them.
+pub mod Loop
+pub mod RunRepresentable
