@@ -1,0 +1,81 @@
+-- The cases of reading and of writing: each refusal with what it hands back, and success.
+use mathlib.Core.Path.{_≡_, refl, ap, sym, _∙_}
+use mathlib.Core.Bool.{Bool, true, false, cond}
+use mathlib.Core.List.{List}
+use Prim.Native.Nat.{ℕ}
+use lib.Dec.{eqb}
+use lib.ListN.{length}
+use borrow.Author.Tests.{eq-eqb, ne-eqb}
+use Rattle.endian.specs.BigEndian.{readAt}
+use Rattle.processor.specs.declared.Processor.{Processor}
+use Rattle.processor.specs.State.{atReset, fit}
+use Rattle.record.specs.Numbers.{wordsAt}
+use Rattle.record.specs.Record.{recordOf, kindsInPlace, processorOf}
+use Rattle.record.specs.Calls.{readRefusal, processorRead, writeRefusal, bufferAfter}
+
+module _ (s : List ℕ) where
+  -- the processor, from its fields
+  pub fields-read : {registers tlbhigh tlblow : List ℕ} {pc psw index entryhigh entrylow badaddress replacement : ℕ}
+      → registers ≡ wordsAt 32 s 1 4
+      → tlbhigh ≡ wordsAt 32 s 156 8
+      → tlblow ≡ wordsAt 32 s 160 8
+      → pc ≡ readAt 4 s 130
+      → psw ≡ readAt 4 s 135
+      → index ≡ readAt 4 s 139
+      → entryhigh ≡ readAt 4 s 143
+      → entrylow ≡ readAt 4 s 147
+      → badaddress ≡ readAt 4 s 151
+      → replacement ≡ readAt 1 s 413
+      → _≡_ {A = Processor} (record {
+        registers = registers;
+        pc = pc;
+        psw = psw;
+        index = index;
+        entryhigh = entryhigh;
+        entrylow = entrylow;
+        badaddress = badaddress;
+        tlbhigh = tlbhigh;
+        tlblow = tlblow;
+        replacement = replacement;
+      }) (processorOf s)
+  unfolding processorOf
+  fields-read a b c d e f g h i j = rw (a, b, c, d, e, f, g, h, i, j)
+
+  -- what a reading with a refusal number hands back
+  handed : (n : ℕ) (p : Processor) → n ≡ readRefusal s → cond (eqb n 0) (processorOf s) atReset ≡ p → (n ≡ readRefusal s) × (p ≡ processorRead s)
+  unfolding processorRead
+  handed n p e f = (e, sym f ∙ ap (λ (k : ℕ). cond (eqb k 0) (processorOf s) atReset) e)
+
+  pub read-wrong-length : (length s ≡ 414 → ⊥) → (4 ≡ readRefusal s) × (atReset ≡ processorRead s)
+  unfolding readRefusal
+  read-wrong-length h = handed 4 atReset (rw (ne-eqb _ _ h)) refl
+
+  pub read-wrong-kind : length s ≡ 414 → kindsInPlace s ≡ false → (5 ≡ readRefusal s) × (atReset ≡ processorRead s)
+  unfolding readRefusal
+  read-wrong-kind h k = handed 5 atReset (rw (eq-eqb _ _ h, k)) refl
+
+  pub read-unfit : length s ≡ 414 → kindsInPlace s ≡ true → fit (processorOf s) ≡ false → (6 ≡ readRefusal s) × (atReset ≡ processorRead s)
+  unfolding readRefusal
+  read-unfit h k f = handed 6 atReset (rw (eq-eqb _ _ h, k, f)) refl
+
+  pub read-accepted : length s ≡ 414 → kindsInPlace s ≡ true → fit (processorOf s) ≡ true → (0 ≡ readRefusal s) × (processorOf s ≡ processorRead s)
+  unfolding readRefusal
+  read-accepted h k f = handed 0 (processorOf s) (rw (eq-eqb _ _ h, k, f)) refl
+
+module _ (p : Processor) (s : List ℕ) where
+  -- what a writing with a refusal number leaves
+  left : (n : ℕ) (t : List ℕ) → n ≡ writeRefusal p s → cond (eqb n 0) (recordOf p) s ≡ t → (n ≡ writeRefusal p s) × (t ≡ bufferAfter p s)
+  unfolding bufferAfter
+  left n t e f = (e, sym f ∙ ap (λ (k : ℕ). cond (eqb k 0) (recordOf p) s) e)
+
+  pub write-wrong-length : (length s ≡ 414 → ⊥) → (4 ≡ writeRefusal p s) × (s ≡ bufferAfter p s)
+  unfolding writeRefusal
+  write-wrong-length h = left 4 s (rw (ne-eqb _ _ h)) refl
+
+  pub write-unfit : length s ≡ 414 → fit p ≡ false → (6 ≡ writeRefusal p s) × (s ≡ bufferAfter p s)
+  unfolding writeRefusal
+  write-unfit h f = left 6 s (rw (eq-eqb _ _ h, f)) refl
+
+  pub write-accepted : length s ≡ 414 → fit p ≡ true → (0 ≡ writeRefusal p s) × (recordOf p ≡ bufferAfter p s)
+  unfolding writeRefusal
+  write-accepted h f = left 0 (recordOf p) (rw (eq-eqb _ _ h, f)) refl

@@ -1,0 +1,4 @@
+-- The definitions of `record`, in the order to read them.
+pub mod Numbers
+pub mod Record
+pub mod Calls
