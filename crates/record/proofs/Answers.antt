@@ -3,12 +3,14 @@ use mathlib.Core.Path.{_≡_, refl, ap, sym, _∙_}
 use mathlib.Core.Bool.{Bool, true, false, cond}
 use mathlib.Core.List.{List}
 use Prim.Native.Nat.{ℕ}
+use native.Mathlib.Omega.{arith}
 use lib.Dec.{eqb}
 use lib.ListN.{length}
-use borrow.Author.Tests.{eq-eqb, ne-eqb}
+use borrow.Author.Tests.{eqb-true, eq-eqb, ne-eqb}
 use Rattle.endian.specs.BigEndian.{readAt}
 use Rattle.processor.specs.declared.Processor.{Processor}
 use Rattle.processor.specs.State.{atReset, fit}
+use Rattle.processor.proofs.FitKept.{reset-fit}
 use Rattle.record.specs.Numbers.{wordsAt}
 use Rattle.record.specs.Record.{recordOf, kindsInPlace, processorOf}
 use Rattle.record.specs.Calls.{readRefusal, processorRead, writeRefusal, bufferAfter}
@@ -62,6 +64,26 @@ module _ (s : List ℕ) where
   unfolding readRefusal
   read-accepted h k f = handed 0 (processorOf s) (rw (eq-eqb _ _ h, k, f)) refl
 
+  -- 0 comes only where nothing is to refuse
+  pub accepted-means : readRefusal s ≡ 0 → (length s ≡ 414) × (kindsInPlace s ≡ true) × (fit (processorOf s) ≡ true)
+  unfolding readRefusal
+  accepted-means e = let passed = go (eqb (length s) 414) (kindsInPlace s) (fit (processorOf s)) e in (eqb-true _ _ (passed .0), passed .1, passed .2)
+    where
+      go : (t u v : Bool) → _≡_ {A = ℕ} (cond t (cond u (cond v 0 6) 5) 4) 0 → (t ≡ true) × (u ≡ true) × (v ≡ true)
+      go true true true e = (refl, refl, refl)
+      go true true false e = absurd (omega arith)
+      go true false v e = absurd (omega arith)
+      go false u v e = absurd (omega arith)
+
+  -- what a reading hands back is fit, the reset machine of a refused one too
+  pub read-fit : fit (processorRead s) ≡ true
+  unfolding processorRead
+  read-fit = go (eqb (readRefusal s) 0) refl
+    where
+      go : (t : Bool) → eqb (readRefusal s) 0 ≡ t → fit (cond t (processorOf s) atReset) ≡ true
+      go true e = accepted-means (eqb-true _ _ e) .2
+      go false e = reset-fit
+
 module _ (p : Processor) (s : List ℕ) where
   -- what a writing with a refusal number leaves
   left : (n : ℕ) (t : List ℕ) → n ≡ writeRefusal p s → cond (eqb n 0) (recordOf p) s ≡ t → (n ≡ writeRefusal p s) × (t ≡ bufferAfter p s)
@@ -79,3 +101,8 @@ module _ (p : Processor) (s : List ℕ) where
   pub write-accepted : length s ≡ 414 → fit p ≡ true → (0 ≡ writeRefusal p s) × (recordOf p ≡ bufferAfter p s)
   unfolding writeRefusal
   write-accepted h f = left 0 (recordOf p) (rw (eq-eqb _ _ h, f)) refl
+
+  -- a refused writing leaves the buffer
+  pub refused-leaves : (writeRefusal p s ≡ 0 → ⊥) → bufferAfter p s ≡ s
+  unfolding bufferAfter
+  refused-leaves h = rw (ne-eqb _ _ h)

@@ -1,6 +1,9 @@
--- The laws behind the proofs of `record`, and the theorems about it.
+-- The laws behind the proofs of `record`, and the two round trips, in the order to read them.
 pub mod Loops
 pub mod KindLaws
-pub mod Writes
+pub mod WriteLaws
 pub mod Written
 pub mod Answers
+pub mod ReadLaws
+pub mod WrittenRead
+pub mod ReadWritten

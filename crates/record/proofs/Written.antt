@@ -1,14 +1,14 @@
 -- The bytes of a record, item after item: their number, and that writing them in this order gives the record.
 use mathlib.Core.Path.{_≡_, refl, ap, sym, _∙_}
 use mathlib.Core.List.{List, [], _∷_, _++_, append-assoc, append-nil}
-use Prim.Native.Nat.{ℕ, _+_, _*_, _%_, _≤_}
+use Prim.Native.Nat.{ℕ, _+_, _%_, _≤_}
 use native.Mathlib.Omega.{arith}
 use lib.ListN.{length, drop, length-append, drop-of-length-le}
 use Rattle.endian.specs.BigEndian.{writeAt}
 use Rattle.processor.specs.declared.Processor.{Processor}
 use Rattle.record.specs.Numbers.{bytesOf, wordBytes, pairBytes, wordsPut}
 use Rattle.record.specs.Record.{recordOf}
-use Rattle.record.proofs.Writes.{Done, bytes-length, words-length, pairs-length, next-number, next-words, next-pairs}
+use Rattle.record.proofs.WriteLaws.{Done, bytes-length, words-length, pairs-length, next-number, next-words, next-pairs}
 
 -- the arrays of a processor have 32 words each
 pub record Arrays (p : Processor) : Type 0 where
@@ -20,7 +20,7 @@ abbrev pub specials : Processor → List ℕ
 specials p = p .psw ∷ p .index ∷ p .entryhigh ∷ p .entrylow ∷ p .badaddress ∷ []
 
 -- the bytes, as they are written
-bytesWritten : Processor → List ℕ
+unfoldable pub bytesWritten : Processor → List ℕ
 bytesWritten p =
     [] ++ bytesOf 1 1 ++ wordBytes (p .registers)
     ++ bytesOf 1 2 ++ bytesOf 4 (p .pc)
@@ -32,7 +32,7 @@ one-byte : (v : ℕ) → bytesOf 1 v ≡ v % 256 ∷ []
 unfolding bytesOf
 one-byte v = refl
 
-same-bytes : (p : Processor) → bytesWritten p ≡ recordOf p
+pub same-bytes : (p : Processor) → bytesWritten p ≡ recordOf p
 unfolding bytesWritten recordOf
 same-bytes p = simp (append-assoc, one-byte 1, one-byte 2, one-byte 3, one-byte 4, one-byte 5)
 

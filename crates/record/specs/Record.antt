@@ -7,6 +7,8 @@ use Rattle.words.specs.Logic.{both}
 use Rattle.endian.specs.BigEndian.{readAt}
 use Rattle.processor.specs.declared.Processor.{Processor}
 use Rattle.record.specs.Numbers.{bytesOf, wordBytes, pairBytes, wordsAt}
+use Rattle.record.specs.Layout.{registersKindAt, pcKindAt, specialKindAt, tlbKindAt, replacementKindAt}
+use Rattle.record.specs.Layout.{registersAt, pcAt, pswAt, indexAt, entryHighAt, entryLowAt, badAddressAt, tlbHighAt, tlbLowAt, replacementAt}
 
 -- the five items, each a kind byte and its body: the registers, the PC, the special registers, the TLB entries, the replacement index
 unfoldable pub recordOf : Processor → List ℕ
@@ -16,56 +18,6 @@ recordOf p =
     ++ (3 ∷ wordBytes (p .psw ∷ p .index ∷ p .entryhigh ∷ p .entrylow ∷ p .badaddress ∷ []))
     ++ (4 ∷ pairBytes (p .tlbhigh) (p .tlblow))
     ++ (5 ∷ bytesOf 1 (p .replacement))
-
--- ---- where the kind bytes and the numbers stand
-
-abbrev pub recordLength : ℕ
-recordLength = 414
-
-abbrev pub registersKindAt : ℕ
-registersKindAt = 0
-
-abbrev pub pcKindAt : ℕ
-pcKindAt = 129
-
-abbrev pub specialKindAt : ℕ
-specialKindAt = 134
-
-abbrev pub tlbKindAt : ℕ
-tlbKindAt = 155
-
-abbrev pub replacementKindAt : ℕ
-replacementKindAt = 412
-
-abbrev pub registersAt : ℕ
-registersAt = 1
-
-abbrev pub pcAt : ℕ
-pcAt = 130
-
-abbrev pub pswAt : ℕ
-pswAt = 135
-
-abbrev pub indexAt : ℕ
-indexAt = 139
-
-abbrev pub entryHighAt : ℕ
-entryHighAt = 143
-
-abbrev pub entryLowAt : ℕ
-entryLowAt = 147
-
-abbrev pub badAddressAt : ℕ
-badAddressAt = 151
-
-abbrev pub tlbHighAt : ℕ
-tlbHighAt = 156
-
-abbrev pub tlbLowAt : ℕ
-tlbLowAt = 160
-
-abbrev pub replacementAt : ℕ
-replacementAt = 413
 
 -- each kind byte is in its place
 unfoldable pub kindsInPlace : List ℕ → Bool
