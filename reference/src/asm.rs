@@ -6,17 +6,17 @@
 //! jumps count words from the next instruction.
 
 /// Format with three registers: x, y, r.
-fn three_registers(opcode: u32, x: u32, y: u32, r: u32) -> u32 {
+pub fn three_registers(opcode: u32, x: u32, y: u32, r: u32) -> u32 {
     opcode << 26 | (x & 31) << 21 | (y & 31) << 16 | (r & 31) << 11
 }
 
 /// Format with two registers and a 16-bit immediate.
-fn two_registers(opcode: u32, first: u32, second: u32, immediate: i32) -> u32 {
+pub fn two_registers(opcode: u32, first: u32, second: u32, immediate: i32) -> u32 {
     opcode << 26 | (first & 31) << 21 | (second & 31) << 16 | (immediate as u32 & 0xFFFF)
 }
 
 /// Format with a 26-bit offset.
-fn long_offset(opcode: u32, offset: i32) -> u32 {
+pub fn long_offset(opcode: u32, offset: i32) -> u32 {
     opcode << 26 | (offset as u32 & 0x03FF_FFFF)
 }
 

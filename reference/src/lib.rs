@@ -15,6 +15,7 @@ pub mod processor;
 pub mod record;
 pub mod run;
 pub mod step;
+pub mod vectors;
 pub mod view;
 
 pub use exception::{Fault, NO_EXCEPTION};

@@ -1,0 +1,163 @@
+//! Random machines that can run for a while.
+
+use super::numbers::Numbers;
+use super::observe::EDGES;
+use super::scene::{Region, Scene};
+use crate::processor::{KEPT_HIGH, KEPT_INDEX, KEPT_LOW, KEPT_PSW, PSW_IC, PSW_UC, PSW_V};
+
+/// Frames with RAM, with ROM, with the belt registers, and just past them.
+const FRAMES: [u32; 8] = [
+    0x0000_0000,
+    0x0000_1000,
+    0x0000_1000,
+    0x0000_0000,
+    0x2000_0000,
+    0x3050_0000,
+    0x0000_2000,
+    0x2000_1000,
+];
+
+/// Pages in both mapped spaces and at their ends.
+const PAGES: [u32; 8] = [
+    0x0000_0000,
+    0x0000_1000,
+    0x0000_2000,
+    0x0000_7000,
+    0x7FFF_F000,
+    0x8000_0000,
+    0x8000_1000,
+    0xBFFF_F000,
+];
+
+/// Registers that hold addresses at the start.
+pub const POINTERS: std::ops::RangeInclusive<u32> = 16..=21;
+
+/// A number of any size, or an edge.
+pub fn operand(numbers: &mut Numbers) -> u32 {
+    match numbers.below(4) {
+        0 => numbers.pick(&EDGES),
+        1 => numbers.below(64),
+        2 => numbers.word() >> numbers.below(32),
+        _ => numbers.word(),
+    }
+}
+
+/// An aligned address in a region, by the direct-mapped space.
+pub fn direct_address(numbers: &mut Numbers) -> u32 {
+    let region = numbers.pick(&Region::ALL);
+    region.direct() + (numbers.below(region.length()) & !3)
+}
+
+/// An address in the page of a TLB entry below `limit`, if there is one.
+pub fn mapped_address(scene: &Scene, numbers: &mut Numbers, limit: u32) -> Option<u32> {
+    let pages: Vec<u32> = scene
+        .cpu
+        .tlb
+        .iter()
+        .filter(|entry| entry.high < limit)
+        .map(|entry| entry.high)
+        .collect();
+    if pages.is_empty() {
+        return None;
+    }
+    // Most offsets lie inside the belt registers too.
+    let reach = if numbers.percent(80) { 1024 } else { 4096 };
+    Some(numbers.pick(&pages) + (numbers.below(reach) & !3))
+}
+
+/// Whether a word could be fetched at an address.
+pub fn executable(scene: &Scene, address: u32, user: bool) -> bool {
+    let mut other = scene.cpu.clone();
+    other.psw = if user { PSW_UC } else { 0 };
+    other
+        .translate(
+            address,
+            crate::memory::Width::Word,
+            crate::mmu::Access::Load,
+            user,
+        )
+        .is_ok_and(|physical| Region::of(physical).is_some())
+}
+
+/// A machine with memory of zeros. One in twenty is filled to the last word.
+pub fn machine(numbers: &mut Numbers) -> Scene {
+    let mut scene = Scene::new();
+    let full = numbers.percent(5);
+    translations(&mut scene, numbers, full);
+    scene.cpu.psw = status(numbers);
+    let kept = [
+        (1, KEPT_INDEX),
+        (2, KEPT_HIGH),
+        (3, KEPT_LOW),
+        (4, 0xFFFF_FFFF),
+    ];
+    for (number, bits) in kept {
+        if full || numbers.percent(40) {
+            scene.cpu.set_special(number, numbers.word() & bits);
+        }
+    }
+    scene.cpu.replacement = 4 + numbers.below(28) as u8;
+    registers(&mut scene, numbers, full);
+    scene.cpu.pc = first_pc(&scene, numbers);
+    scene
+}
+
+fn status(numbers: &mut Numbers) -> u32 {
+    let mode = numbers.pick(&[0, PSW_UC, PSW_UC]);
+    let v = numbers.pick(&[0, PSW_V]);
+    let enable = if numbers.percent(40) { PSW_IC } else { 0 };
+    let lower = numbers.word() & 0x037F_FFFF;
+    (mode | v | enable | lower) & KEPT_PSW
+}
+
+fn translations(scene: &mut Scene, numbers: &mut Numbers, full: bool) {
+    for n in 0..if full { 32 } else { 6 } {
+        let index = if full { n } else { numbers.below(32) as usize };
+        let page = if full && numbers.percent(50) {
+            numbers.word() & KEPT_HIGH
+        } else {
+            numbers.pick(&PAGES)
+        };
+        let frame = numbers.pick(&FRAMES);
+        let bits = numbers.pick(&[3, 3, 3, 3, 1, 1, 0, 2]);
+        scene.map(index, page, frame | bits);
+    }
+    // One user page with code, so that User Mode gets somewhere.
+    let frame = numbers.pick(&FRAMES[..6]);
+    scene.map(numbers.below(4) as usize, 0x0000_3000, frame | 1);
+}
+
+fn registers(scene: &mut Scene, numbers: &mut Numbers, full: bool) {
+    for number in 1..32 {
+        let value = if POINTERS.contains(&number) || numbers.percent(10) {
+            let mapped = mapped_address(scene, numbers, 0xC000_0000);
+            match numbers.below(3) {
+                0 => direct_address(numbers),
+                _ => mapped.unwrap_or(0xC000_0000),
+            }
+        } else if full || !(8..30).contains(&number) {
+            operand(numbers)
+        } else {
+            0
+        };
+        scene.cpu.set_register(number, value);
+    }
+}
+
+/// A PC where a word can be fetched, nearly always.
+fn first_pc(scene: &Scene, numbers: &mut Numbers) -> u32 {
+    let user = scene.cpu.user_mode();
+    for _ in 0..16 {
+        let limit = if user { 0x8000_0000 } else { 0xC000_0000 };
+        let mapped = mapped_address(scene, numbers, limit).unwrap_or(0x0000_3000);
+        let pc = if user || numbers.percent(40) {
+            mapped
+        } else {
+            direct_address(numbers)
+        };
+        if executable(scene, pc, user) {
+            return pc;
+        }
+    }
+    numbers.word()
+}

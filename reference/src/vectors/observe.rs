@@ -1,0 +1,202 @@
+//! What a step covers, read off the machine before and after it.
+
+use super::access;
+use super::mnemonics::{mnemonic, MVTS, RFX};
+use super::scene::{Region, Scene};
+use super::tally::Tally;
+use crate::exception::NO_EXCEPTION;
+use crate::processor::{PSW_IC, PSW_V};
+
+/// Operands and immediates at the edges of their ranges.
+pub const EDGES: [u32; 5] = [0, 1, 0x7FFF_FFFF, 0x8000_0000, 0xFFFF_FFFF];
+pub const EDGE_IMMEDIATES: [u32; 5] = [0, 1, 0x7FFF, 0x8000, 0xFFFF];
+pub const EDGE_OFFSETS: [u32; 5] = [0, 1, 0x01FF_FFFF, 0x0200_0000, 0x03FF_FFFF];
+pub const SHIFT_COUNTS: [u32; 4] = [0, 31, 32, 33];
+
+pub fn mode_name(scene: &Scene) -> &'static str {
+    if scene.cpu.user_mode() {
+        "User Mode"
+    } else {
+        "Kernel Mode"
+    }
+}
+
+/// A step, with the instruction word if one was fetched.
+pub struct Step<'a> {
+    pub before: &'a Scene,
+    pub after: &'a Scene,
+    pub lines: u16,
+    pub eid: u32,
+    pub word: u32,
+}
+
+impl Step<'_> {
+    pub fn opcode(&self) -> u32 {
+        self.word >> 26
+    }
+
+    /// Register in bits 25..21, and its contents before the step.
+    pub fn x(&self) -> (u32, u32) {
+        let number = self.word >> 21 & 31;
+        (number, self.before.cpu.register(number))
+    }
+
+    /// Register in bits 20..16, and its contents before the step.
+    pub fn y(&self) -> (u32, u32) {
+        let number = self.word >> 16 & 31;
+        (number, self.before.cpu.register(number))
+    }
+
+    pub fn immediate(&self) -> u32 {
+        self.word & 0xFFFF
+    }
+
+    /// Address of a load or store.
+    pub fn address(&self) -> u32 {
+        let offset = self.immediate() as u16 as i16 as u32;
+        self.x().1.wrapping_add(offset)
+    }
+
+    pub fn completed(&self) -> bool {
+        self.eid == NO_EXCEPTION
+    }
+}
+
+#[derive(Default)]
+pub struct Observer {
+    pub tally: Tally,
+    /// Opcode that completed in the step before, within one case.
+    previous: Option<u32>,
+}
+
+impl Observer {
+    /// A case of so many steps begins.
+    pub fn begin(&mut self, steps: usize) {
+        self.previous = None;
+        self.tally.add("set", "cases");
+        let length = match steps {
+            0..=1 => "of 1 step",
+            2..=5 => "of 2 to 5 steps",
+            6..=12 => "of 6 to 12 steps",
+            _ => "of more steps",
+        };
+        self.tally.add("cases", length);
+    }
+
+    pub fn step(&mut self, before: &Scene, lines: u16, eid: u32, after: &Scene) {
+        let mut step = Step {
+            before,
+            after,
+            lines,
+            eid,
+            word: 0,
+        };
+        self.general(&step);
+        self.interrupt_lines(&step);
+        if eid < 16 {
+            self.accepted_interrupt(&step);
+            self.previous = None;
+            return;
+        }
+        self.program_counter(&step);
+        match before.fetched() {
+            Ok((physical, word)) => {
+                step.word = word;
+                self.fetched(&step, physical);
+                self.instruction(&step);
+                self.previous = step.completed().then_some(step.opcode());
+            }
+            Err(fault) => {
+                let item = format!("{} in {}", fault.eid(), mode_name(before));
+                self.tally.add("fault of the fetch", item);
+                access::translation(&mut self.tally, before, before.cpu.pc, "fetch", eid);
+                self.previous = None;
+            }
+        }
+    }
+
+    fn general(&mut self, step: &Step) {
+        self.tally.add("set", "steps");
+        self.tally
+            .add("steps", format!("in {}", mode_name(step.before)));
+        let v = u32::from(step.before.cpu.psw & PSW_V != 0);
+        self.tally.add("steps", format!("with V {v}"));
+        if step.completed() {
+            return;
+        }
+        let eid = step.eid;
+        self.tally.add("exception", format!("EID {eid}"));
+        self.tally.add("exception by V", format!("EID {eid} V {v}"));
+        let item = format!("EID {eid} {}", mode_name(step.before));
+        self.tally.add("exception by mode", item);
+        let stacks = step.before.cpu.psw >> 21 & 63;
+        self.tally
+            .add("PSW stacks at entry", format!("{stacks:02o}"));
+    }
+
+    /// Lines that no interrupt answers.
+    fn interrupt_lines(&mut self, step: &Step) {
+        let psw = step.before.cpu.psw;
+        let ready = u32::from(step.lines) & psw & 0xFFFF;
+        if step.lines != 0 && ready == 0 && psw & PSW_IC != 0 {
+            self.tally.add("interrupt", "masked by IEN");
+        }
+        if ready != 0 && psw & PSW_IC == 0 {
+            self.tally.add("interrupt", "disabled by I_C");
+        }
+    }
+
+    fn accepted_interrupt(&mut self, step: &Step) {
+        let (channel, psw) = (step.eid, step.before.cpu.psw);
+        let ready = u32::from(step.lines) & psw & 0xFFFF;
+        let alone = if ready.count_ones() == 1 {
+            "alone"
+        } else {
+            "among several"
+        };
+        self.tally.add("channel", format!("{channel} {alone}"));
+        if u32::from(step.lines) & !psw & ((1 << channel) - 1) != 0 {
+            self.tally.add("interrupt", "above a masked line");
+        }
+        let instead = match step.before.fetched() {
+            Err(fault) => format!("before a fetch with fault {}", fault.eid()),
+            Ok((_, word)) => format!("before {}", mnemonic(word >> 26)),
+        };
+        self.tally.add("interrupt", instead);
+        if let Some(opcode @ (MVTS | RFX)) = self.previous {
+            self.tally
+                .add("interrupt", format!("right after {}", mnemonic(opcode)));
+        }
+        if step.before.cpu.pc == 0xFFFF_FFFC {
+            self.tally.add("PC", "FFFFFFFC interrupted");
+        }
+    }
+
+    fn program_counter(&mut self, step: &Step) {
+        let (pc, next) = (step.before.cpu.pc, step.after.cpu.pc);
+        if pc % 4 != 0 {
+            self.tally.add("PC", format!("ends in {}", pc % 4));
+        }
+        if pc == 0xFFFF_FFFC {
+            self.tally.add("PC", format!("FFFFFFFC, EID {}", step.eid));
+        }
+        if step.completed() && pc < 0x0000_1000 && next >= 0xFFFF_0000 {
+            self.tally.add("PC", "back past 00000000");
+        }
+        for edge in [0x8000_0000, 0xC000_0000] {
+            if step.completed() && pc == edge - 4 && next == edge {
+                self.tally.add("PC", format!("on to {edge:08X}"));
+            }
+        }
+    }
+
+    fn fetched(&mut self, step: &Step, physical: u32) {
+        let pc = step.before.cpu.pc;
+        let how = if pc < 0xC000_0000 { "mapped" } else { "direct" };
+        if let Some((region, _)) = Region::of(physical) {
+            let item = format!("{} {how}", region.name());
+            self.tally.add("fetch", item);
+        }
+        access::translation(&mut self.tally, step.before, pc, "fetch", NO_EXCEPTION);
+    }
+}

@@ -1,0 +1,124 @@
+//! Writer of the file of vectors.
+//!
+//! The file is a sequence of commands of 8 bytes, big-endian: a kind byte, a
+//! number a of 24 bits, a number b of 32 bits. A reader holds an expected
+//! machine and the model's; changes of the expected machine stand before the
+//! step that has to make them.
+
+use super::observe::Observer;
+use super::scene::Scene;
+use crate::processor::Processor;
+use crate::record::{write_record, RECORD_LENGTH};
+
+/// A case begins: the reset machine and memory of zeros are expected.
+pub const CLEAR: u8 = 0;
+/// Word b, or byte b, at offset a of the expected record.
+pub const RECORD_WORD: u8 = 1;
+pub const RECORD_BYTE: u8 = 2;
+/// Word b at offset a of the expected memory.
+pub const RAM_WORD: u8 = 3;
+pub const ROM_WORD: u8 = 4;
+pub const BELT_WORD: u8 = 5;
+/// The model takes the expected machine and memory.
+pub const START: u8 = 6;
+/// The model makes a step with lines a, which has to accept EID b (32: none).
+pub const STEP: u8 = 7;
+/// End of the file after b cases.
+pub const END: u8 = 8;
+
+/// Offset of the replacement index, the one item that is no word.
+const REPLACEMENT_AT: usize = 413;
+
+/// Offsets of the words of the record (document 01, "What the host lends").
+fn record_words() -> impl Iterator<Item = usize> {
+    let registers = (0..32).map(|n| 1 + 4 * n);
+    let specials = (0..5).map(|n| 135 + 4 * n);
+    let tlb = (0..64).map(|n| 156 + 4 * n);
+    registers.chain([130]).chain(specials).chain(tlb)
+}
+
+fn word_at(bytes: &[u8], at: usize) -> u32 {
+    bytes[at..at + 4]
+        .iter()
+        .fold(0, |value, &byte| value << 8 | u32::from(byte))
+}
+
+fn record_of(cpu: &Processor) -> Vec<u8> {
+    let mut record = vec![0; RECORD_LENGTH];
+    let refusal = write_record(cpu, &mut record);
+    assert_eq!(refusal, 0, "every machine of the set is fit");
+    record
+}
+
+#[derive(Default)]
+pub struct Writer {
+    bytes: Vec<u8>,
+    cases: u32,
+    pub observer: Observer,
+}
+
+impl Writer {
+    fn command(&mut self, kind: u8, a: usize, b: u32) {
+        let a = (a as u32).to_be_bytes();
+        assert_eq!(a[0], 0, "a has 24 bits");
+        self.bytes.extend([kind, a[1], a[2], a[3]]);
+        self.bytes.extend(b.to_be_bytes());
+    }
+
+    /// Patches one region where two scenes differ.
+    fn patch_region(&mut self, kind: u8, from: &[u8], to: &[u8]) {
+        if from == to {
+            return;
+        }
+        for at in (0..to.len()).step_by(4) {
+            if from[at..at + 4] != to[at..at + 4] {
+                self.command(kind, at, word_at(to, at));
+            }
+        }
+    }
+
+    /// Patches the expected machine where two scenes differ.
+    fn patch(&mut self, from: &Scene, to: &Scene) {
+        let (old, new) = (record_of(&from.cpu), record_of(&to.cpu));
+        for at in record_words() {
+            if old[at..at + 4] != new[at..at + 4] {
+                self.command(RECORD_WORD, at, word_at(&new, at));
+            }
+        }
+        if old[REPLACEMENT_AT] != new[REPLACEMENT_AT] {
+            let index = u32::from(new[REPLACEMENT_AT]);
+            self.command(RECORD_BYTE, REPLACEMENT_AT, index);
+        }
+        self.patch_region(RAM_WORD, &from.ram, &to.ram);
+        self.patch_region(ROM_WORD, &from.rom, &to.rom);
+        self.patch_region(BELT_WORD, &from.belt, &to.belt);
+    }
+
+    /// Writes a case: a step of `start` for each number of `lines`.
+    pub fn case(&mut self, start: &Scene, lines: &[u16]) {
+        self.cases += 1;
+        self.command(CLEAR, 0, 0);
+        self.patch(&Scene::new(), start);
+        self.command(START, 0, 0);
+        self.observer.begin(lines.len());
+        let mut scene = start.clone();
+        for &lines in lines {
+            let before = scene.clone();
+            let eid = scene.step(lines);
+            self.patch(&before, &scene);
+            self.command(STEP, usize::from(lines), eid);
+            self.observer.step(&before, lines, eid, &scene);
+        }
+    }
+
+    /// Writes a case without interrupt lines.
+    pub fn quiet(&mut self, start: &Scene, steps: usize) {
+        self.case(start, &vec![0; steps]);
+    }
+
+    /// Ends the file.
+    pub fn finish(mut self) -> (Vec<u8>, Observer) {
+        self.command(END, 0, self.cases);
+        (self.bytes, self.observer)
+    }
+}
