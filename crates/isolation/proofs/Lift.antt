@@ -18,7 +18,7 @@ use Rattle.instructions.specs.declared.Action.{Action}
 use Rattle.instructions.specs.declared.Action.the-variants.{Write, Store, System, Exception}
 use Rattle.machine.specs.State.{Machine, Representable}
 use Rattle.machine.specs.Step.{look, storeWidth, memoryDone, stepOf, stepEid}
-use Rattle.runs.specs.Refusal.{ramAccepted, romAccepted, beltAccepted, check, memoryChecked, stepsChecked, runRefusal}
+use Rattle.runs.specs.Refusal.{pagesUpTo, ramAccepted, romAccepted, check, lengthsChecked, runRefusal}
 use Rattle.runs.specs.Run.{Answer, Outcome, outcome, ends, runFrom, refused, runOf}
 use Rattle.machine.proofs.StepRepresentable.{step-representable}
 use Rattle.isolation.specs.Frames.{Reached, SameIn}
@@ -55,24 +55,18 @@ passed : (t : Bool) (number rest : ℕ) → check t (suc number) rest ≡ 0 → 
 passed true number rest e = (refl, e)
 passed false number rest e = absurd (omega arith)
 
-ram-bound : (n : ℕ) → ramAccepted n ≡ true → n ≤ 536870912
-unfolding ramAccepted
-ram-bound n e =
-    let upper : both (leb n 536870912) (eqb (n % 4096) 0) ≡ true = both-second (leb 4096 n) _ e in
-    leb-true n 536870912 (both-first (leb n 536870912) (eqb (n % 4096) 0) upper)
-
-rom-bound : (n : ℕ) → romAccepted n ≡ true → n ≤ 268435456
-unfolding romAccepted
-rom-bound n e =
-    let upper : both (leb n 268435456) (eqb (n % 4096) 0) ≡ true = both-second (leb 4096 n) _ e in
-    leb-true n 268435456 (both-first (leb n 268435456) (eqb (n % 4096) 0) upper)
+pages-bound : (limit n : ℕ) → pagesUpTo limit n ≡ true → n ≤ limit
+unfolding pagesUpTo
+pages-bound limit n e =
+    let upper : both (leb n limit) (eqb (n % 4096) 0) ≡ true = both-second (leb 4096 n) _ e in
+    leb-true n limit (both-first (leb n limit) (eqb (n % 4096) 0) upper)
 
 pub accepted-parts : (m : Machine) (wanted : ℕ) → runRefusal m wanted ≡ 0 → Apart (m .memory)
-unfolding runRefusal memoryChecked
+unfolding runRefusal lengthsChecked
 accepted-parts m wanted e =
     let ram = passed (ramAccepted (length (m .memory .ram))) 0 _ e in
     let rom = passed (romAccepted (length (m .memory .rom))) 1 _ (ram .1) in
-    accepted-apart (m .memory) (ram-bound (length (m .memory .ram)) (ram .0)) (rom-bound (length (m .memory .rom)) (rom .0))
+    accepted-apart (m .memory) (pages-bound 536870912 (length (m .memory .ram)) (ram .0)) (pages-bound 268435456 (length (m .memory .rom)) (rom .0))
 
 -- ---- what is carried along
 
@@ -87,7 +81,7 @@ module _ (start : Machine) where
   mode-same m n b = ap (λ (p : Processor). userMode (p .psw)) (sym (b .alike .processor))
 
   pub refusal-same : (m n : Machine) → Both start m n → (wanted : ℕ) → runRefusal n wanted ≡ runRefusal m wanted
-  unfolding runRefusal memoryChecked
+  unfolding runRefusal lengthsChecked
   refusal-same m n b wanted = rw (b .alike .processor, b .alike .frames .ram, b .alike .frames .rom, b .alike .frames .belt)
 
   module _ (lines : ℕ) where

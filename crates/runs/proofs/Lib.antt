@@ -1,3 +1,4 @@
 -- The laws of `runs`, in the order to read them.
+pub mod Checks
 pub mod Loop
 pub mod RunRepresentable

@@ -8,26 +8,30 @@ use Rattle.memory.specs.Map.{Memory}
 use Rattle.processor.specs.State.{fit}
 use Rattle.machine.specs.State.{Machine}
 
+-- 4,096 bytes up to a limit, a multiple of 4,096
+unfoldable pub pagesUpTo : ℕ → ℕ → Bool
+pagesUpTo limit n = both (leb 4096 n) (both (leb n limit) (eqb (n % 4096) 0))
+
 -- the lengths of RAM, ROM and belt that are accepted
-unfoldable pub ramAccepted : ℕ → Bool
-ramAccepted n = both (leb 4096 n) (both (leb n 536870912) (eqb (n % 4096) 0))
+abbrev pub ramAccepted : ℕ → Bool
+ramAccepted n = pagesUpTo 536870912 n
 
-unfoldable pub romAccepted : ℕ → Bool
-romAccepted n = both (leb 4096 n) (both (leb n 268435456) (eqb (n % 4096) 0))
+abbrev pub romAccepted : ℕ → Bool
+romAccepted n = pagesUpTo 268435456 n
 
-unfoldable pub beltAccepted : ℕ → Bool
+abbrev pub beltAccepted : ℕ → Bool
 beltAccepted n = eqb n 1024
 
 -- a check: its number if it fails, else what the checks after it say
 abbrev pub check : Bool → ℕ → ℕ → ℕ
 check passed number rest = cond passed rest number
 
--- causes 1, 2 and 3, and then those of the rest
-unfoldable pub memoryChecked : Memory → ℕ → ℕ
-memoryChecked m rest =
-    check (ramAccepted (length (m .ram))) 1
-    (check (romAccepted (length (m .rom))) 2
-    (check (beltAccepted (length (m .belt))) 3 rest))
+-- causes 1, 2 and 3, of the lengths of RAM, ROM and belt, and then what the checks after them say
+unfoldable pub lengthsChecked : ℕ → ℕ → ℕ → ℕ → ℕ
+lengthsChecked ram rom belt rest = check (ramAccepted ram) 1 (check (romAccepted rom) 2 (check (beltAccepted belt) 3 rest))
+
+abbrev pub memoryChecked : Memory → ℕ → ℕ
+memoryChecked m rest = lengthsChecked (length (m .ram)) (length (m .rom)) (length (m .belt)) rest
 
 -- cause 7
 unfoldable pub stepsChecked : ℕ → ℕ

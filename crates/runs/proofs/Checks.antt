@@ -1,0 +1,117 @@
+-- The checks of a run, by the tests of the code.
+use mathlib.Core.Path.{_≡_, refl, ap, sym, _∙_}
+use mathlib.Core.Bool.{Bool, true, false, not}
+use Prim.Native.Nat.{ℕ, _%_, _≤_, _<_}
+use native.Mathlib.Omega.{arith}
+use lib.Dec.{leb, eqb}
+use lib.ListN.{length}
+use borrow.Author.Tests.{le-leb, lt-leb, leb-true, eq-eqb, ne-eqb}
+use Rattle.processor.specs.State.{fit}
+use Rattle.machine.specs.State.{Machine}
+use Rattle.runs.specs.Refusal.{check, pagesUpTo, ramAccepted, romAccepted, beltAccepted, lengthsChecked, memoryChecked, stepsChecked, runRefusal}
+use Rattle.runs.specs.Run.{outcome, runFrom, runOf}
+
+-- ---- a test of the code that is negated
+
+pub fails : (t : Bool) → not t ≡ true → t ≡ false
+fails true e = sym e
+fails false e = refl
+
+pub holds : (t : Bool) → not t ≡ false → t ≡ true
+holds true e = refl
+holds false e = sym e
+
+-- ---- a length
+
+module _ (limit n : ℕ) where
+  pub pages-short : n < 4096 → false ≡ pagesUpTo limit n
+  unfolding pagesUpTo
+  pages-short h = simp (lt-leb 4096 n h)
+
+  pub pages-long : 4096 ≤ n → limit < n → false ≡ pagesUpTo limit n
+  unfolding pagesUpTo
+  pages-long h k = simp (le-leb 4096 n h, lt-leb n limit k)
+
+  pub pages-whole : 4096 ≤ n → n ≤ limit → eqb (n % 4096) 0 ≡ pagesUpTo limit n
+  unfolding pagesUpTo
+  pages-whole h k = simp (le-leb 4096 n h, le-leb n limit k)
+
+-- ---- the three lengths
+
+module _ (ram rom belt rest : ℕ) where
+  pub ram-refused : ramAccepted ram ≡ false → 1 ≡ lengthsChecked ram rom belt rest
+  unfolding lengthsChecked
+  ram-refused e = simp e
+
+  pub rom-refused : ramAccepted ram ≡ true → romAccepted rom ≡ false → 2 ≡ lengthsChecked ram rom belt rest
+  unfolding lengthsChecked
+  rom-refused e f = simp (e, f)
+
+  pub belt-refused : ramAccepted ram ≡ true → romAccepted rom ≡ true → (belt ≡ 1024 → ⊥) → 3 ≡ lengthsChecked ram rom belt rest
+  unfolding lengthsChecked
+  belt-refused e f h = simp (e, f, ne-eqb belt 1024 h)
+
+  pub lengths-pass : ramAccepted ram ≡ true → romAccepted rom ≡ true → belt ≡ 1024 → rest ≡ lengthsChecked ram rom belt rest
+  unfolding lengthsChecked
+  lengths-pass e f h = simp (e, f, eq-eqb belt 1024 h)
+
+-- ---- then the checks after them
+
+-- either a length is refused, whatever comes after, or what comes after decides
+by-lengths : (t u v : Bool) (rest r : ℕ) → r ≡ check t 1 (check u 2 (check v 3 0))
+    → ((r ≡ 0 → ⊥) → r ≡ check t 1 (check u 2 (check v 3 rest))) × (r ≡ 0 → rest ≡ check t 1 (check u 2 (check v 3 rest)))
+by-lengths true true true rest r e = (λ no. absurd (no e), λ _. refl)
+by-lengths true true false rest r e = (λ _. e, λ no. absurd (omega arith))
+by-lengths true false v rest r e = (λ _. e, λ no. absurd (omega arith))
+by-lengths false u v rest r e = (λ _. e, λ no. absurd (omega arith))
+
+module _ (ram rom belt rest r : ℕ) (e : r ≡ lengthsChecked ram rom belt 0) where
+  pub lengths-refused : (r ≡ 0 → ⊥) → r ≡ lengthsChecked ram rom belt rest
+  unfolding lengthsChecked
+  lengths-refused h = by-lengths (ramAccepted ram) (romAccepted rom) (beltAccepted belt) rest r e .0 h
+
+  pub lengths-passed : r ≡ 0 → rest ≡ lengthsChecked ram rom belt rest
+  unfolding lengthsChecked
+  lengths-passed h = by-lengths (ramAccepted ram) (romAccepted rom) (beltAccepted belt) rest r e .1 h
+
+pub check-fails : (t : Bool) (number rest : ℕ) → t ≡ false → number ≡ check t number rest
+check-fails t number rest e = rw e
+
+pub check-passes : (t : Bool) (number rest : ℕ) → t ≡ true → rest ≡ check t number rest
+check-passes t number rest e = rw e
+
+-- ---- the steps
+
+pub steps-refused : (wanted : ℕ) → 1000000 < wanted → 7 ≡ stepsChecked wanted
+unfolding stepsChecked
+steps-refused wanted h = simp (lt-leb wanted 1000000 h)
+
+pub steps-pass : (wanted : ℕ) → wanted ≤ 1000000 → 0 ≡ stepsChecked wanted
+unfolding stepsChecked
+steps-pass wanted h = simp (le-leb wanted 1000000 h)
+
+-- ---- a run by its refusal number
+
+module _ (kind : Bool) (m : Machine) (wanted lines r : ℕ)
+    (e : r ≡ memoryChecked (m .memory) (check (fit (m .processor)) 6 (stepsChecked wanted))) where
+  pub run-refused : (r ≡ 0 → ⊥) → outcome m r 0 32 ≡ runOf kind m wanted lines
+  unfolding runOf runRefusal
+  run-refused h = rw (← e) (simp (ne-eqb r 0 h))
+
+  pub run-accepted : r ≡ 0 → runFrom kind wanted 0 m lines ≡ runOf kind m wanted lines
+  unfolding runOf runRefusal
+  run-accepted h = rw (← e) (simp (eq-eqb r 0 h))
+
+  within : (t u v f s : Bool) → check t 1 (check u 2 (check v 3 (check f 6 (check s 7 0)))) ≡ 0 → s ≡ true
+  within true true true true true e = refl
+  within true true true true false e = absurd (omega arith)
+  within true true true false s e = absurd (omega arith)
+  within true true false f s e = absurd (omega arith)
+  within true false v f s e = absurd (omega arith)
+  within false u v f s e = absurd (omega arith)
+
+  pub steps-within : r ≡ 0 → wanted ≤ 1000000
+  unfolding lengthsChecked stepsChecked
+  steps-within h =
+      leb-true wanted 1000000 (within (ramAccepted (length (m .memory .ram))) (romAccepted (length (m .memory .rom)))
+      (beltAccepted (length (m .memory .belt))) (fit (m .processor)) (leb wanted 1000000) (sym e ∙ h))
