@@ -9,13 +9,21 @@ use Rattle.machine.specs.State.{Machine}
 use Rattle.machine.specs.Step.{stepOf, stepEid}
 use Rattle.runs.specs.Refusal.{runRefusal}
 use Rattle.runs.specs.Run.{Answer, Outcome, ends, runOf}
+use Rattle.record.specs.Record.{recordOf}
+use Rattle.eco32.specs.Runs.{Called, machineIn, callRefusal, callOf}
 
 -- PSW bit 26 is 1
 abbrev pub inUserMode : Machine → Bool
 inUserMode m = userMode (m .processor .psw)
 
+-- where a run is entered: with the processor by value, or as an exported call with the machine as its record
+pub data Entry : Type 0 where
+  ByValue : Entry
+  Exported : Entry
+
 -- a run of the list: its entry point, kind, wanted steps and interrupt lines
 pub record Call : Type 0 where
+  pub entry : Entry
   pub kind : Bool
   pub wanted : ℕ
   pub lines : ℕ
@@ -28,12 +36,26 @@ traceFrom kind zero m lines = []
 traceFrom kind (suc n) m lines =
     stepOf m lines ∷ cond (ends kind (stepEid m lines)) [] (traceFrom kind n (stepOf m lines) lines)
 
-abbrev pub callOutcome : Call → Machine → Outcome
-callOutcome c m = runOf (c .kind) m (c .wanted) (c .lines)
+-- the machine of a record, and the memory, after an exported run
+abbrev pub handedBack : Called → Outcome
+handedBack c = record { machine = machineIn (c .buffer) (c .memory); answer = c .answer }
+
+abbrev pub outcomeBy : Entry → Bool → Machine → ℕ → ℕ → Outcome
+outcomeBy ByValue kind m wanted lines = runOf kind m wanted lines
+outcomeBy Exported kind m wanted lines = handedBack (callOf kind (recordOf (m .processor)) (m .memory) wanted lines)
 
 -- a refused run makes no step
+abbrev pub traceBy : Entry → Bool → Machine → ℕ → ℕ → List Machine
+traceBy ByValue kind m wanted lines = cond (eqb (runRefusal m wanted) 0) (traceFrom kind wanted m lines) []
+traceBy Exported kind m wanted lines =
+    cond (eqb (callRefusal (recordOf (m .processor)) (m .memory) wanted) 0)
+    (traceFrom kind wanted (machineIn (recordOf (m .processor)) (m .memory)) lines) []
+
+unfoldable pub callOutcome : Call → Machine → Outcome
+callOutcome c m = outcomeBy (c .entry) (c .kind) m (c .wanted) (c .lines)
+
 unfoldable pub callTrace : Call → Machine → List Machine
-callTrace c m = cond (eqb (runRefusal m (c .wanted)) 0) (traceFrom (c .kind) (c .wanted) m (c .lines)) []
+callTrace c m = traceBy (c .entry) (c .kind) m (c .wanted) (c .lines)
 
 -- ---- the list: each run takes the machine that the one before it returned and the bytes that it left
 

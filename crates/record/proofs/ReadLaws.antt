@@ -30,6 +30,13 @@ module _ (s : List ℕ) where
       ∙ getD-at (bytesOf w (v / 256)) (v % 256) r 0 w (bytes-length w (v / 256)) in
       omega arith
 
+  -- a byte, whatever stands in its place
+  pub byte-read : (r : List ℕ) (n v : ℕ) → drop n s ≡ v ∷ r → readAt 1 s n ≡ v
+  unfolding readAt
+  byte-read r n v e =
+      let there : getD s (n + 0) 0 ≡ v = sym (getD-drop n s 0 0) ∙ ap (λ (l : List ℕ). getD l 0 0) e in
+      omega arith
+
   pub words-read : (r l : List ℕ) (n : ℕ) → ((i : ℕ) → getD l i 0 < 256 ^ 4) → drop n s ≡ wordBytes l ++ r
       → wordsAt (length l) s n 4 ≡ l
   unfolding wordBytes wordsAt

@@ -16,7 +16,7 @@ use Rattle.record.proofs.ReadLaws.{number-joins, words-join, pairs-join
 
 module _ (s : List ℕ) (h : (j : ℕ) → getD s j 0 < 256) where
   same-record : length s ≡ 414 → Kinds s → recordOf (processorOf s) ≡ s
-  unfolding bytesWritten processorOf wordsAt
+  unfolding bytesWritten processorOf wordsAt readAt
   same-record e k =
       let j1 = number-joins s h 0 {a = []} refl 1 1 (omega arith) (sym (k .first)) in
       let j2 = words-join s h 1 j1 32 (omega arith) in
@@ -29,7 +29,8 @@ module _ (s : List ℕ) (h : (j : ℕ) → getD s j 0 < 256) where
       let j9 = number-joins s h 412 j8 1 5 (omega arith) (sym (k .fifth)) in
       let j10 : bytesWritten (processorOf s) ≡ take 414 s = number-joins s h 413 j9 1 (readAt 1 s 413) (omega arith) refl in
       let all : length s ≤ 414 = omega arith in
-      sym (same-bytes (processorOf s)) ∙ j10 ∙ take-all 414 s all
+      let small : readAt 1 s 413 < 256 = omega (arith, h 413) in
+      sym (same-bytes (processorOf s) small) ∙ j10 ∙ take-all 414 s all
 
   pub read-written : readRefusal s ≡ 0 → recordOf (processorRead s) ≡ s
   read-written e =

@@ -1,7 +1,7 @@
 -- The bytes of a record, item after item: their number, and that writing them in this order gives the record.
 use mathlib.Core.Path.{_≡_, refl, ap, sym, _∙_}
 use mathlib.Core.List.{List, [], _∷_, _++_, append-assoc, append-nil}
-use Prim.Native.Nat.{ℕ, _+_, _%_, _≤_}
+use Prim.Native.Nat.{ℕ, _+_, _%_, _≤_, _<_}
 use native.Mathlib.Omega.{arith}
 use lib.ListN.{length, drop, length-append, drop-of-length-le}
 use Rattle.endian.specs.BigEndian.{writeAt}
@@ -28,13 +28,18 @@ bytesWritten p =
     ++ bytesOf 1 4 ++ pairBytes (p .tlbhigh) (p .tlblow)
     ++ bytesOf 1 5 ++ bytesOf 1 (p .replacement)
 
-one-byte : (v : ℕ) → bytesOf 1 v ≡ v % 256 ∷ []
+pub one-byte : (v : ℕ) → bytesOf 1 v ≡ v % 256 ∷ []
 unfolding bytesOf
 one-byte v = refl
 
-pub same-bytes : (p : Processor) → bytesWritten p ≡ recordOf p
+-- a replacement index that fits in its byte
+byte-itself : (v : ℕ) → v < 256 → bytesOf 1 v ≡ v ∷ []
+byte-itself v h = let same : v % 256 ≡ v = omega arith in one-byte v ∙ ap (λ (b : ℕ). b ∷ []) same
+
+pub same-bytes : (p : Processor) → p .replacement < 256 → bytesWritten p ≡ recordOf p
 unfolding bytesWritten recordOf
-same-bytes p = simp (append-assoc, one-byte 1, one-byte 2, one-byte 3, one-byte 4, one-byte 5)
+same-bytes p small =
+    simp (append-assoc, one-byte 1, one-byte 2, one-byte 3, one-byte 4, one-byte 5, byte-itself (p .replacement) small)
 
 module _ (p : Processor) (h : Arrays p) where
   pub record-length : length (recordOf p) ≡ 414
@@ -43,7 +48,7 @@ module _ (p : Processor) (h : Arrays p) where
       simp (length-append, bytes-length, words-length, pairs-length (p .tlbhigh) (p .tlblow) (h .highs ∙ sym (h .lows)), h .registers, h .highs)
 
   -- eleven writes into a list of 414 bytes
-  pub all-written : (s : List ℕ) → length s ≡ 414 → {t1 t2 t3 t4 t5 t6 t7 t8 t9 t10 t11 : List ℕ}
+  pub all-written : p .replacement < 256 → (s : List ℕ) → length s ≡ 414 → {t1 t2 t3 t4 t5 t6 t7 t8 t9 t10 t11 : List ℕ}
       → t1 ≡ writeAt 1 s 0 1
       → t2 ≡ wordsPut t1 1 4 (p .registers)
       → t3 ≡ writeAt 1 t2 129 2
@@ -57,7 +62,7 @@ module _ (p : Processor) (h : Arrays p) where
       → t11 ≡ writeAt 1 t10 413 (p .replacement)
       → t11 ≡ recordOf p
   unfolding bytesWritten
-  all-written s e e1 e2 e3 e4 e5 e6 e7 e8 e9 e10 e11 =
+  all-written small s e e1 e2 e3 e4 e5 e6 e7 e8 e9 e10 e11 =
       let d0 : Done 0 [] s s = record { count = refl; bytes = refl } in
       let d1 = next-number 0 [] s d0 1 1 (omega arith) e1 in
       let d2 = next-words 1 _ s d1 (p .registers) 129 (omega (arith, h .registers)) (omega arith) e2 in
@@ -71,4 +76,4 @@ module _ (p : Processor) (h : Arrays p) where
       let d10 = next-number 413 _ s d9 1 (p .replacement) (omega arith) e11 in
       let all : length s ≤ 414 = omega arith in
       let rest : drop 414 s ≡ [] = drop-of-length-le s all in
-      d10 .bytes ∙ ap (λ (l : List ℕ). bytesWritten p ++ l) rest ∙ append-nil (bytesWritten p) ∙ same-bytes p
+      d10 .bytes ∙ ap (λ (l : List ℕ). bytesWritten p ++ l) rest ∙ append-nil (bytesWritten p) ∙ same-bytes p small

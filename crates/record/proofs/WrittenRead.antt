@@ -1,21 +1,20 @@
 -- A machine written and read is the same machine.
 use mathlib.Core.Path.{_≡_, ap, sym, _∙_}
 use mathlib.Core.Bool.{true}
-use mathlib.Core.List.{List, [], _++_, append-assoc, append-nil}
+use mathlib.Core.List.{List, [], _∷_, _++_, append-assoc}
 use Prim.Native.Nat.{ℕ, zero, suc, _+_, _*_, _^_, _<_}
 use native.Mathlib.Omega.{arith}
 use lib.ListN.{length, getD, drop}
 use Rattle.processor.specs.declared.Processor.{Processor}
 use Rattle.processor.specs.State.{fit}
-use Rattle.processor.proofs.FitLaws.{fit-means}
 use Rattle.record.specs.Numbers.{bytesOf, wordBytes, pairBytes, wordsAt}
 use Rattle.record.specs.Record.{recordOf, processorOf}
 use Rattle.record.specs.Calls.{readRefusal, processorRead, bufferAfter}
 use Rattle.record.proofs.KindLaws.{Kinds, means-kinds}
 use Rattle.record.proofs.WriteLaws.{bytes-length, words-length, pairs-length}
-use Rattle.record.proofs.Written.{Arrays, specials, bytesWritten, same-bytes, record-length}
+use Rattle.record.proofs.Written.{Arrays, specials, one-byte, record-length}
 use Rattle.record.proofs.Answers.{fields-read, read-accepted, write-accepted}
-use Rattle.record.proofs.ReadLaws.{past, number-read, words-read, pairs-read}
+use Rattle.record.proofs.ReadLaws.{past, number-read, byte-read, words-read, pairs-read}
 
 -- a value of the code's type: 32 words in each array, and every number below 2 ^ 32
 pub record Value (p : Processor) : Type 0 where
@@ -45,16 +44,16 @@ module _ (p : Processor) (v : Value p) where
       ++ (bytesOf 1 2 ++ (bytesOf 4 (p .pc)
       ++ (bytesOf 1 3 ++ (wordBytes (specials p)
       ++ (bytesOf 1 4 ++ (pairBytes (p .tlbhigh) (p .tlblow)
-      ++ (bytesOf 1 5 ++ (bytesOf 1 (p .replacement) ++ [])))))))))
-  unfolding bytesWritten
-  laid-out = sym (same-bytes p) ∙ simp (append-assoc, append-nil)
+      ++ (bytesOf 1 5 ++ (p .replacement ∷ [])))))))))
+  unfolding recordOf
+  laid-out = simp (append-assoc, one-byte 1, one-byte 2, one-byte 3, one-byte 4, one-byte 5)
 
   -- what a record holds, field by field
-  holds : p .replacement < 256 → Kinds (recordOf p) × (processorOf (recordOf p) ≡ p)
+  pub holds : Kinds (recordOf p) × (processorOf (recordOf p) ≡ p)
   unfolding wordsAt
-  holds small =
+  holds =
       let s : List ℕ = recordOf p in
-      let r9 : List ℕ = bytesOf 1 (p .replacement) ++ [] in
+      let r9 : List ℕ = p .replacement ∷ [] in
       let r8 : List ℕ = bytesOf 1 5 ++ r9 in
       let r7 : List ℕ = pairBytes (p .tlbhigh) (p .tlblow) ++ r8 in
       let r6 : List ℕ = bytesOf 1 4 ++ r7 in
@@ -98,12 +97,12 @@ module _ (p : Processor) (v : Value p) where
             (sym (ap (λ (l : List ℕ). getD l 2 0) special))
             (sym (ap (λ (l : List ℕ). getD l 3 0) special))
             (sym (ap (λ (l : List ℕ). getD l 4 0) special))
-            (sym (number-read s [] 1 413 (p .replacement) small e9))),
+            (sym (byte-read s [] 413 (p .replacement) e9))),
       )
 
   pub written-read : fit p ≡ true → (readRefusal (recordOf p) ≡ 0) × (processorRead (recordOf p) ≡ p)
   written-read f =
-      let held = holds (omega (arith, fit-means p f .upto)) in
+      let held = holds in
       let answer = read-accepted (recordOf p) (record-length p (v .arrays)) (means-kinds (recordOf p) (held .0)) (ap fit (held .1) ∙ f) in
       (sym (answer .0), sym (answer .1) ∙ held .1)
 

@@ -17,7 +17,7 @@ recordOf p =
     ++ (2 ∷ bytesOf 4 (p .pc))
     ++ (3 ∷ wordBytes (p .psw ∷ p .index ∷ p .entryhigh ∷ p .entrylow ∷ p .badaddress ∷ []))
     ++ (4 ∷ pairBytes (p .tlbhigh) (p .tlblow))
-    ++ (5 ∷ bytesOf 1 (p .replacement))
+    ++ (5 ∷ p .replacement ∷ [])
 
 -- each kind byte is in its place
 unfoldable pub kindsInPlace : List ℕ → Bool

@@ -1,7 +1,7 @@
 // The machine record: read from and written to a byte slice (document 01, "What the host lends" and "Refused calls").
 use processor::Processor;
 ghost use mathlib.Core.Path.{_≡_};
-ghost use Prim.Native.Nat.{_+_, _*_, _≤_};
+ghost use Prim.Native.Nat.{_+_, _*_, _≤_, _<_};
 ghost use lib.ListN.{length};
 ghost use Rattle.processor.specs.State.{atReset};
 ghost use Rattle.record.specs.Numbers.{wordsAt, wordsPut};
@@ -125,7 +125,7 @@ fn get(s: &[u8]) -> Processor
 
 // The 414 bytes of a processor.
 fn put(p: Processor, s: &mut [u8])
-    requires { ⌜ length (now s) ≡ 414 ⌝ }
+    requires { ⌜ (length (now s) ≡ 414) × (p .replacement < 256) ⌝ }
     ensures { λ r. ⌜ now (s .exit) ≡ recordOf p ⌝ }
 {
     let specials = [p.psw, p.index, p.entryhigh, p.entrylow, p.badaddress];

@@ -1,6 +1,6 @@
 -- The checks of a run, by the tests of the code.
 use mathlib.Core.Path.{_≡_, refl, ap, sym, _∙_}
-use mathlib.Core.Bool.{Bool, true, false, not}
+use mathlib.Core.Bool.{Bool, true, false}
 use Prim.Native.Nat.{ℕ, _%_, _≤_, _<_}
 use native.Mathlib.Omega.{arith}
 use lib.Dec.{leb, eqb}
@@ -10,16 +10,6 @@ use Rattle.processor.specs.State.{fit}
 use Rattle.machine.specs.State.{Machine}
 use Rattle.runs.specs.Refusal.{check, pagesUpTo, ramAccepted, romAccepted, beltAccepted, lengthsChecked, memoryChecked, stepsChecked, runRefusal}
 use Rattle.runs.specs.Run.{outcome, runFrom, runOf}
-
--- ---- a test of the code that is negated
-
-pub fails : (t : Bool) → not t ≡ true → t ≡ false
-fails true e = sym e
-fails false e = refl
-
-pub holds : (t : Bool) → not t ≡ false → t ≡ true
-holds true e = refl
-holds false e = sym e
 
 -- ---- a length
 

@@ -1,4 +1,6 @@
 -- `record::write` meets its contract, by the cases of Answers.
+use native.Mathlib.Omega.{arith}
+use Rattle.processor.proofs.FitLaws.{fit-means}
 use mathlib.Core.Path.{sym, _∙_}
 use denote.Ref.{now}
 use borrow.Author.Tests.{not-true, not-false}
@@ -17,7 +19,7 @@ returns-2 : tie.Need-returns-2
 returns-2 c = write-unfit (c .before .before .before .before .args .p) (now (c .before .before .before .before .args .buffer)) (c .before .before .if1 .left) (sym (c .before .is-fit .ensures) ∙ not-true _ (c .if2 .taken))
 
 put-requires : tie.Need-put-requires
-put-requires c κs = search needs
+put-requires c κs = (c .before .before .before .if1 .left, omega (arith, fit-means _ (sym (c .before .before .is-fit .ensures) ∙ not-false _ (c .before .if2 .left)) .upto))
 
 same-length : tie.Need-same-length
 same-length c = search needs

@@ -1,4 +1,5 @@
-use Rattle.runs.proofs.Checks.{fails, holds, lengths-refused, lengths-passed, check-fails, check-passes}
+use Rattle.runs.proofs.Checks.{lengths-refused, lengths-passed, check-fails, check-passes}
+use borrow.Author.Tests.{not-true, not-false}
 use mathlib.Core.Path.{sym, _∙_}
 use Rattle.runs.proofs.Checks.{lengths-refused, lengths-passed, check-fails, check-passes}
 use borrow.Author.Needs.{needs}
@@ -24,7 +25,7 @@ is-fit-requires c κs = search needs
 
 -- src/refusal.rt:70:9
 returns-2 : tie.Need-returns-2
-returns-2 c = check-fails _ 6 _ (sym (c .before .is-fit .ensures) ∙ fails _ (c .if2 .taken)) ∙ lengths-passed _ _ _ _ _ (c .before .before .before .of-lengths .ensures) (c .before .before .if1 .left)
+returns-2 c = check-fails _ 6 _ (sym (c .before .is-fit .ensures) ∙ not-true _ (c .if2 .taken)) ∙ lengths-passed _ _ _ _ _ (c .before .before .before .of-lengths .ensures) (c .before .before .if1 .left)
 
 -- src/refusal.rt:72:5
 of-steps-requires : tie.Need-of-steps-requires
@@ -32,7 +33,7 @@ of-steps-requires c κs = search needs
 
 -- src/refusal.rt:62:1
 returns-3 : tie.Need-returns-3
-returns-3 c = c .of-steps .ensures ∙ check-passes _ 6 _ (sym (c .before .before .is-fit .ensures) ∙ holds _ (c .before .if2 .left)) ∙ lengths-passed _ _ _ _ _ (c .before .before .before .before .of-lengths .ensures) (c .before .before .before .if1 .left)
+returns-3 c = c .of-steps .ensures ∙ check-passes _ 6 _ (sym (c .before .before .is-fit .ensures) ∙ not-false _ (c .before .if2 .left)) ∙ lengths-passed _ _ _ _ _ (c .before .before .before .before .of-lengths .ensures) (c .before .before .before .if1 .left)
 
 pub of-run-spec : {M : Type 1} → statement M
 of-run-spec =

@@ -1,0 +1,1 @@
+-- The laws of `eco32`, in the order to read them.

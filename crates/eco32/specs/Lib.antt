@@ -1,0 +1,3 @@
+-- The definitions of `eco32`, in the order to read them.
+pub mod Records
+pub mod Runs

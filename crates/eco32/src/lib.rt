@@ -1,0 +1,1 @@
+// The calls for C: numbers and byte slices, the machine as its record.
