@@ -1,1 +1,3 @@
 -- The laws of `eco32`, in the order to read them.
+pub mod RecordLaws
+pub mod CallLaws

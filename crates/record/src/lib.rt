@@ -17,7 +17,7 @@ pub const WRONG_KIND: u32 = 5;
 
 pub const UNFIT: u32 = 6;
 
-const LENGTH: usize = 414;
+pub const LENGTH: usize = 414;
 
 // Where the kind bytes stand.
 const REGISTERS_KIND_AT: usize = 0;
@@ -123,8 +123,8 @@ fn get(s: &[u8]) -> Processor
     }
 }
 
-// The 414 bytes of a processor.
-fn put(p: Processor, s: &mut [u8])
+// The 414 bytes of a processor, into a buffer of that length.
+pub fn put(p: Processor, s: &mut [u8])
     requires { ⌜ (length (now s) ≡ 414) × (p .replacement < 256) ⌝ }
     ensures { λ r. ⌜ now (s .exit) ≡ recordOf p ⌝ }
 {

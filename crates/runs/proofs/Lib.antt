@@ -2,3 +2,5 @@
 pub mod Checks
 pub mod Loop
 pub mod RunRepresentable
+pub mod RunFit
+pub mod RunLaws

@@ -51,3 +51,8 @@ refused m number = outcome m number 0 32
 unfoldable pub runOf : Bool → Machine → ℕ → ℕ → Outcome
 runOf kind m wanted lines =
     cond (eqb (runRefusal m wanted) 0) (runFrom kind wanted 0 m lines) (refused m (runRefusal m wanted))
+
+-- the machine after n steps, to which the laws of a run compare it
+unfoldable pub stateAfter : ℕ → Machine → ℕ → Machine
+stateAfter zero m lines = m
+stateAfter (suc n) m lines = stateAfter n (stepOf m lines) lines

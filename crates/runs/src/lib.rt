@@ -1,5 +1,5 @@
 // The two kinds of run, and which calls are refused (document 01, "Runs and views" and "Refused calls").
-mod refusal;
+pub mod refusal;
 
 use processor::Processor;
 ghost use mathlib.Core.Path.{_≡_};
