@@ -2,7 +2,7 @@
 use processor::Processor;
 ghost use mathlib.Core.Path.{_≡_};
 ghost use Rattle.processor.specs.State.{fit};
-ghost use Rattle.runs.specs.Refusal.{check, pagesUpTo, lengthsChecked, stepsChecked};
+ghost use Rattle.runs.specs.Refusal.{check, pagesUpTo, ramAccepted, lengthsChecked, stepsChecked};
 
 pub const RAM_LENGTH: u32 = 1;
 
@@ -34,11 +34,17 @@ fn whole_pages(n: usize, limit: usize) -> bool
     n % 4096 == 0
 }
 
+pub fn ram_accepted(n: usize) -> bool
+    ensures { λ r. ⌜ r ≡ ramAccepted n ⌝ }
+{
+    whole_pages(n, MOST_RAM)
+}
+
 // The first of causes 1, 2 and 3 that holds, or 0.
 pub fn of_lengths(ram: usize, rom: usize, belt: usize) -> u32
     ensures { λ r. ⌜ r ≡ lengthsChecked ram rom belt 0 ⌝ }
 {
-    if !whole_pages(ram, MOST_RAM) {
+    if !ram_accepted(ram) {
         return RAM_LENGTH;
     }
     if !whole_pages(rom, MOST_ROM) {

@@ -1,39 +1,29 @@
+-- `eco32::record_calls::copy` meets its contract, by the laws of RecordLaws.
 use mathlib.Core.Path.{_∙_}
 use denote.Ref.{now}
-use Rattle.eco32.proofs.RecordLaws.{copy-wrong-source, copy-wrong-buffer, copy-refused, copy-done, read-index}
 use borrow.Author.Needs.{needs}
+use Rattle.eco32.proofs.RecordLaws.{copy-wrong-source, copy-wrong-buffer, copy-refused, copy-done, read-index}
 use Rattle.eco32.proofs.record_calls.copy.Statement.{statement}
 use Rattle.eco32.proofs.record_calls.copy.Tie as tie
-use Rattle.eco32.proofs.record_calls.copy.Reads as reads
-use Rattle.eco32.proofs.record_calls.copy.Lts as lts
-use Rattle.record.proofs.put.Reads as put-reads
-use Rattle.record.proofs.read.Reads as read-reads
 
--- src/record_calls.rt:25:9
 returns : tie.Need-returns
 returns c = copy-wrong-source (now (c .before .before .before .args .from)) (now (c .before .before .before .args .buffer)) (c .if1 .taken)
 
--- src/record_calls.rt:28:9
 returns-2 : tie.Need-returns-2
 returns-2 c = copy-wrong-buffer (now (c .before .before .before .before .args .from)) (now (c .before .before .before .before .args .buffer)) (c .before .if1 .left) (c .if2 .taken)
 
--- src/record_calls.rt:30:9
 read-requires : tie.Need-read-requires
 read-requires c κs = search needs
 
--- src/record_calls.rt:32:9
 returns-3 : tie.Need-returns-3
 returns-3 c = copy-refused (now (c .before .before .before .before .before .before .before .args .from)) (now (c .before .before .before .before .before .before .before .args .buffer)) (c .before .before .before .before .if1 .left) (c .before .before .before .if2 .left) _ (c .before .before .read .ensures .0) (c .if3 .taken)
 
--- src/record_calls.rt:34:5
 put-requires : tie.Need-put-requires
 put-requires c κs = (c .before .before .before .before .if2 .left, read-index _ _ (c .before .before .before .read .ensures .1))
 
--- src/record_calls.rt:20:1
 same-length : tie.Need-same-length
 same-length c = search needs
 
--- src/record_calls.rt:20:1
 returns-4 : tie.Need-returns-4
 returns-4 c = let done = copy-done (now (c .before .before .before .before .before .before .before .before .before .before .before .args .from)) (now (c .before .before .before .before .before .before .before .before .before .before .before .args .buffer)) (c .before .before .before .before .before .before .before .before .if1 .left) (c .before .before .before .before .before .before .before .if2 .left) _ (c .before .before .before .before .before .before .read .ensures .0) (c .before .before .before .before .if3 .left) _ (c .before .before .before .before .before .before .read .ensures .1) in (done .0, c .before .before .put .ensures ∙ done .1)
 

@@ -1,37 +1,26 @@
-use Rattle.runs.proofs.Checks.{lengths-refused, lengths-passed, check-fails, check-passes}
-use borrow.Author.Tests.{not-true, not-false}
+-- `runs::refusal::of_run` meets its contract, by the laws of Checks.
 use mathlib.Core.Path.{sym, _∙_}
-use Rattle.runs.proofs.Checks.{lengths-refused, lengths-passed, check-fails, check-passes}
+use borrow.Author.Tests.{not-true, not-false}
 use borrow.Author.Needs.{needs}
+use Rattle.runs.proofs.Checks.{lengths-refused, lengths-passed, check-fails, check-passes}
 use Rattle.runs.proofs.refusal.of_run.Statement.{statement}
 use Rattle.runs.proofs.refusal.of_run.Tie as tie
-use Rattle.runs.proofs.refusal.of_run.Reads as reads
-use Rattle.runs.proofs.refusal.of_run.Lts as lts
-use Rattle.processor.proofs.Processor.is_fit.Reads as is-fit-reads
-use Rattle.runs.proofs.refusal.of_lengths.Reads as of-lengths-reads
-use Rattle.runs.proofs.refusal.of_steps.Reads as of-steps-reads
 
--- src/refusal.rt:65:9
 of-lengths-requires : tie.Need-of-lengths-requires
 of-lengths-requires c κs = search needs
 
--- src/refusal.rt:67:9
 returns : tie.Need-returns
 returns c = lengths-refused _ _ _ _ _ (c .before .of-lengths .ensures) (c .if1 .taken)
 
--- src/refusal.rt:69:9
 is-fit-requires : tie.Need-is-fit-requires
 is-fit-requires c κs = search needs
 
--- src/refusal.rt:70:9
 returns-2 : tie.Need-returns-2
 returns-2 c = check-fails _ 6 _ (sym (c .before .is-fit .ensures) ∙ not-true _ (c .if2 .taken)) ∙ lengths-passed _ _ _ _ _ (c .before .before .before .of-lengths .ensures) (c .before .before .if1 .left)
 
--- src/refusal.rt:72:5
 of-steps-requires : tie.Need-of-steps-requires
 of-steps-requires c κs = search needs
 
--- src/refusal.rt:62:1
 returns-3 : tie.Need-returns-3
 returns-3 c = c .of-steps .ensures ∙ check-passes _ 6 _ (sym (c .before .before .is-fit .ensures) ∙ not-false _ (c .before .if2 .left)) ∙ lengths-passed _ _ _ _ _ (c .before .before .before .before .of-lengths .ensures) (c .before .before .before .if1 .left)
 

@@ -1,14 +1,11 @@
+-- `runs::refusal::of_steps` meets its contract, by the laws of Checks.
 use Rattle.runs.proofs.Checks.{steps-refused, steps-pass}
 use Rattle.runs.proofs.refusal.of_steps.Statement.{statement}
 use Rattle.runs.proofs.refusal.of_steps.Tie as tie
-use Rattle.runs.proofs.refusal.of_steps.Reads as reads
-use Rattle.runs.proofs.refusal.of_steps.Lts as lts
 
--- src/refusal.rt:57:9
 returns : tie.Need-returns
 returns c = steps-refused _ (c .if1 .taken)
 
--- src/refusal.rt:53:1
 returns-2 : tie.Need-returns-2
 returns-2 c = steps-pass _ (c .if1 .left)
 

@@ -1,18 +1,14 @@
+-- `runs::refusal::whole_pages` meets its contract, by the laws of Checks.
 use Rattle.runs.proofs.Checks.{pages-short, pages-long, pages-whole}
 use Rattle.runs.proofs.refusal.whole_pages.Statement.{statement}
 use Rattle.runs.proofs.refusal.whole_pages.Tie as tie
-use Rattle.runs.proofs.refusal.whole_pages.Reads as reads
-use Rattle.runs.proofs.refusal.whole_pages.Lts as lts
 
--- src/refusal.rt:22:9
 returns : tie.Need-returns
 returns c = pages-short _ _ (c .if1 .taken)
 
--- src/refusal.rt:25:9
 returns-2 : tie.Need-returns-2
 returns-2 c = pages-long _ _ (c .before .if1 .left) (c .if2 .taken)
 
--- src/refusal.rt:18:1
 returns-3 : tie.Need-returns-3
 returns-3 c = pages-whole _ _ (c .before .if1 .left) (c .if2 .left)
 

@@ -1,0 +1,2 @@
+-- The definitions of `view`.
+pub mod View

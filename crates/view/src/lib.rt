@@ -1,0 +1,102 @@
+// The page view: the part of the lent RAM behind a virtual page (document 01, "Runs and views").
+use processor::Processor;
+use processor::translation;
+use processor::translation::Translation;
+use processor::translation::Width;
+use runs::refusal;
+ghost use mathlib.Core.Path.{_≡_};
+ghost use Rattle.view.specs.View.{viewRefusal, viewOffset, viewLength, viewPart, partPtr};
+
+// Number 8 of the table of refusals.
+const NO_FRAME: u32 = 8;
+
+// U_C is 0.
+const KERNEL_MODE: u32 = 0;
+
+const FRAME_BYTES: u64 = 4096;
+
+// The refusal or 0, and where the part lies in RAM; offset and length are 0 where refused.
+pub struct View {
+    pub refusal: u32,
+    pub offset: u64,
+    pub length: u64,
+}
+
+// The refusal or 0, and the part of the lent RAM: 4,096 bytes, or empty where refused.
+pub struct Part<'a> {
+    pub refusal: u32,
+    pub part: &'a [u8],
+}
+
+fn refused(number: u32) -> View
+    ensures refusal { λ r. ⌜ r .refusal ≡ number ⌝ }
+    ensures offset { λ r. ⌜ r .offset ≡ 0 ⌝ }
+    ensures length { λ r. ⌜ r .length ≡ 0 ⌝ }
+{
+    View {
+        refusal: number,
+        offset: 0,
+        length: 0,
+    }
+}
+
+pub fn locate(ram: &[u8], p: Processor, page: u64) -> View
+    ensures refusal { λ r. ⌜ r .refusal ≡ viewRefusal (now (ram .entry)) p page ⌝ }
+    ensures offset { λ r. ⌜ r .offset ≡ viewOffset (now (ram .entry)) p page ⌝ }
+    ensures length { λ r. ⌜ r .length ≡ viewLength (now (ram .entry)) p page ⌝ }
+{
+    if !refusal::ram_accepted(ram.len()) {
+        return refused(refusal::RAM_LENGTH);
+    }
+    if !p.is_fit() {
+        return refused(refusal::UNFIT_MACHINE);
+    }
+    if 0xF_FFFF < page {
+        return refused(NO_FRAME);
+    }
+    let highs = p.tlbhigh;
+    let lows = p.tlblow;
+    let address = page as u32 * 0x1000;
+    let found = translation::translate(KERNEL_MODE, &highs, &lows, Width::Byte, false, address);
+    let Translation::Physical(physical) = found else {
+        return refused(NO_FRAME);
+    };
+    if ram.len() <= physical as usize {
+        return refused(NO_FRAME);
+    }
+    View {
+        refusal: 0,
+        offset: physical as u64,
+        length: FRAME_BYTES,
+    }
+}
+
+fn refusal_of<'a>(ram: &'a [u8], p: Processor, page: u64) -> u32
+    ensures { λ r. ⌜ r ≡ viewRefusal (now (ram .entry)) p page ⌝ }
+{
+    let view = locate(ram, p, page);
+    view.refusal
+}
+
+// The part of the caller's RAM itself, or an empty part.
+fn part_of<'a>(ram: &'a [u8], p: Processor, page: u64) -> &'a [u8]
+    ensures { λ r. ⌜ (now r ≡ viewPart (now (ram .entry)) p page) × (r .ptr ≡ partPtr (ram .entry .ptr) (now (ram .entry)) p page) ⌝ }
+{
+    let view = locate(ram, p, page);
+    if view.refusal != 0 {
+        return &ram[..0];
+    }
+    let start = view.offset as usize;
+    let end = start + view.length as usize;
+    &ram[start..end]
+}
+
+// The number and the part.
+pub fn page_view<'a>(ram: &'a [u8], p: Processor, page: u64) -> Part<'a>
+    ensures { λ r. ⌜ (r .refusal ≡ viewRefusal (now (ram .entry)) p page) × (now (r .part) ≡ viewPart (now (ram .entry)) p page) × (r .part .ptr ≡ partPtr (ram .entry .ptr) (now (ram .entry)) p page) ⌝ }
+{
+    Part {
+        refusal: refusal_of(ram, p, page),
+        part: part_of(ram, p, page),
+    }
+}
