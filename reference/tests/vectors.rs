@@ -189,26 +189,33 @@ fn telling(bytes: &[u8]) -> Vec<usize> {
     found
 }
 
+/// The case with a command, alone, and the command's place in it.
+fn case_around(bytes: &[u8], n: usize) -> (Vec<u8>, usize) {
+    let is_edge = |&n: &usize| matches!(bytes[8 * n], 0 | 8);
+    let first = (0..=n).rev().find(is_edge).unwrap();
+    let last = (n + 1..).find(is_edge).unwrap();
+    (bytes[8 * first..8 * last].to_vec(), n - first)
+}
+
 #[test]
 fn a_changed_byte_is_found() {
-    // The first cases are enough, and each kind of patch from all of them.
+    // Commands from all over the file, and some of each kind.
     let bytes = &set().bytes;
     let telling = telling(bytes);
-    let mut chosen: Vec<usize> = telling[..80].to_vec();
+    let mut chosen: Vec<usize> = telling.iter().step_by(97).copied().collect();
     for kind in [1, 2, 3, 5, 7] {
         let of_kind = telling.iter().filter(|&&n| bytes[8 * n] == kind);
-        chosen.extend(of_kind.take(3));
+        chosen.extend(of_kind.take(20));
     }
     for n in chosen {
-        for place in 4..8 {
-            let mut changed = bytes.clone();
+        let (case, n) = case_around(bytes, n);
+        assert_eq!(Reader::read(&case).unwrap_err(), "no end");
+        // The upper bytes of a byte patch say nothing.
+        let first = if case[8 * n] == 2 { 7 } else { 4 };
+        for place in first..8 {
+            let mut changed = case.clone();
             changed[8 * n + place] ^= 0x10;
-            // The upper bytes of a byte patch say nothing.
-            if changed[8 * n] == 2 && place != 7 {
-                continue;
-            }
-            let end = changed.len().min(8 * (n + 400));
-            let error = Reader::read(&changed[..end]).unwrap_err();
+            let error = Reader::read(&changed).unwrap_err();
             assert_ne!(error, "no end", "command {n} byte {place}");
         }
     }

@@ -27,7 +27,8 @@ fn compare(path: &str, bytes: &[u8]) -> Result<(), String> {
     ))
 }
 
-fn work(arguments: &[String]) -> Result<(), String> {
+/// Builds the set and prints what it covers; fails if that is too little.
+fn build() -> Result<Vec<u8>, String> {
     let set = Set::build();
     let required = required();
     print!("{}", set.tally.report(&required));
@@ -39,9 +40,13 @@ fn work(arguments: &[String]) -> Result<(), String> {
     if set.bytes.len() > MOST_BYTES {
         return Err(format!("the set has more than {MOST_BYTES} bytes"));
     }
+    Ok(set.bytes)
+}
+
+fn work(arguments: &[String]) -> Result<(), String> {
     match arguments {
-        [path] if path != "--check" => store(path, &set.bytes),
-        [check, path] if check == "--check" => compare(path, &set.bytes),
+        [path] if path != "--check" => store(path, &build()?),
+        [check, path] if check == "--check" => compare(path, &build()?),
         _ => Err(USAGE.to_string()),
     }
 }

@@ -2,10 +2,11 @@
 
 use super::mnemonics::{group, mnemonic, Group};
 use super::observe::{mode_name, Step};
-use super::scene::{Region, Scene};
+use super::scene::Region;
 use super::tally::Tally;
 use crate::memory::Width;
 use crate::mmu::Access;
+use crate::processor::Processor;
 
 /// How far past the end of a region counts as just past it.
 const NEAR: u32 = 64;
@@ -20,7 +21,7 @@ pub fn width_of(opcode: u32) -> Width {
 
 /// Counts a translation by the TLB: `kind` is fetch, load or store, `eid` the
 /// fault of the access or 32.
-pub fn translation(tally: &mut Tally, scene: &Scene, address: u32, kind: &str, eid: u32) {
+pub fn translation(tally: &mut Tally, cpu: &Processor, address: u32, kind: &str, eid: u32) {
     if address >= 0xC000_0000 || matches!(eid, 24 | 25) {
         return;
     }
@@ -29,7 +30,7 @@ pub fn translation(tally: &mut Tally, scene: &Scene, address: u32, kind: &str, e
     } else {
         "from 80000000"
     };
-    let mode = mode_name(scene);
+    let mode = mode_name(cpu);
     let result = match eid {
         21 => "miss",
         22 => "write",
@@ -37,13 +38,12 @@ pub fn translation(tally: &mut Tally, scene: &Scene, address: u32, kind: &str, e
         _ => "hit",
     };
     tally.add("TLB", format!("{kind} {result} {space} {mode}"));
-    if let Some(index) = scene.cpu.find_entry(address) {
-        if eid == 16 && scene.cpu.tlb[index].low >= 0x4000_0000 {
+    if let Some(index) = cpu.find_entry(address) {
+        if eid == 16 && cpu.tlb[index].low >= 0x4000_0000 {
             tally.add("frame from 40000000", kind);
         }
     }
-    let lows: Vec<u32> = scene
-        .cpu
+    let lows: Vec<u32> = cpu
         .tlb
         .iter()
         .filter(|entry| entry.high >> 12 == address >> 12)
@@ -89,22 +89,27 @@ pub fn data(tally: &mut Tally, step: &Step) {
         }
     }
     wrapped(tally, step, address);
-    if let Ok(physical) = step.before.physical(address, width_of(opcode), access) {
-        place(tally, name, physical, eid);
+    let user = step.before.user_mode();
+    let reached = step
+        .before
+        .translate(address, width_of(opcode), access, user);
+    if let Ok(physical) = reached {
+        place(tally, step, physical);
     }
 }
 
 /// Where the access goes, or past which end.
-fn place(tally: &mut Tally, name: &str, physical: u32, eid: u32) {
-    if let Some((region, _)) = Region::of(physical) {
-        let item = match eid {
+fn place(tally: &mut Tally, step: &Step, physical: u32) {
+    let name = mnemonic(step.opcode());
+    if let Some((region, _)) = step.scene.locate(physical) {
+        let item = match step.eid {
             16 => format!("{name} {} 16", region.name()),
             _ => format!("{name} {}", region.name()),
         };
         tally.add("data access", item);
     }
     for region in Region::ALL {
-        let end = region.base() + region.length();
+        let end = region.base() + step.scene.length(region);
         if physical.checked_sub(end).is_some_and(|past| past < NEAR) {
             let item = format!("{name} past {}", region.name());
             tally.add("past the end", item);
@@ -135,24 +140,24 @@ fn wrapped(tally: &mut Tally, step: &Step, address: u32) {
 fn order(tally: &mut Tally, step: &Step, address: u32) {
     let bytes = width_of(step.opcode()).bytes() as u32;
     let unaligned = !address.is_multiple_of(bytes);
-    let user = step.before.cpu.user_mode();
+    let user = step.before.user_mode();
     if unaligned && user && address >= 0x8000_0000 {
         tally.add("order of faults", "alignment before privilege");
     }
-    if unaligned && address < 0xC000_0000 && step.before.cpu.find_entry(address).is_none() {
+    if unaligned && address < 0xC000_0000 && step.before.find_entry(address).is_none() {
         tally.add("order of faults", "alignment before a miss");
     }
     if !unaligned && user && (0x8000_0000..0xC000_0000).contains(&address) {
         tally.add("order of faults", "privilege before the TLB");
     }
     let store = group(step.opcode()) == Group::Store;
-    let Some(index) = step.before.cpu.find_entry(address) else {
+    let Some(index) = step.before.find_entry(address) else {
         return;
     };
-    if store && step.eid == 23 && step.before.cpu.tlb[index].low & 3 == 0 {
+    if store && step.eid == 23 && step.before.tlb[index].low & 3 == 0 {
         tally.add("order of faults", "valid bit before write bit");
     }
-    if store && step.eid == 22 && Region::of(step.before.cpu.tlb[index].low & !3).is_none() {
+    if store && step.eid == 22 && step.scene.locate(step.before.tlb[index].low & !3).is_none() {
         tally.add("order of faults", "write bit before bus timeout");
     }
 }

@@ -3,7 +3,7 @@
 
 use super::access::width_of;
 use super::machines::{direct_address, executable, mapped_address, operand};
-use super::mnemonics::{opcodes, Group, MVFS, MVTS, RFX};
+use super::mnemonics::{ignored_bits, opcodes, Group, MVFS, MVTS, RFX};
 use super::numbers::Numbers;
 use super::scene::Scene;
 use crate::asm::{addi, ldhi, long_offset, three_registers, two_registers};
@@ -18,7 +18,17 @@ fn destination(numbers: &mut Numbers) -> u32 {
     }
 }
 
+/// The next instruction, now and then with bits set that have no effect.
 pub fn instruction(scene: &Scene, numbers: &mut Numbers) -> u32 {
+    let word = plain_instruction(scene, numbers);
+    if numbers.percent(25) {
+        word | numbers.word() & ignored_bits(word >> 26)
+    } else {
+        word
+    }
+}
+
+fn plain_instruction(scene: &Scene, numbers: &mut Numbers) -> u32 {
     let user = scene.cpu.user_mode();
     if !user && returns_to_user(scene) && numbers.percent(25) {
         return RFX << 26;
@@ -40,7 +50,7 @@ fn compute(scene: &Scene, numbers: &mut Numbers) -> u32 {
     let opcode = numbers.below(0x20);
     let (x, y, r) = (numbers.below(32), numbers.below(32), destination(numbers));
     match opcode {
-        0x1E => ldhi(r, direct_address(numbers) as i32 >> 16),
+        0x1E => ldhi(r, direct_address(scene, numbers) as i32 >> 16),
         // Most divisions by 0 are left out.
         0x08..=0x0F
             if opcode.is_multiple_of(2) && scene.cpu.register(y) == 0 && numbers.percent(80) =>
@@ -64,7 +74,7 @@ fn target(scene: &Scene, numbers: &mut Numbers) -> u32 {
             0xE000_1000,
             0xF050_0400,
         ]),
-        1..=4 if !user => direct_address(numbers),
+        1..=4 if !user => direct_address(scene, numbers),
         _ => mapped_address(scene, numbers, limit).unwrap_or(0x0000_3000),
     }
 }

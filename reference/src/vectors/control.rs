@@ -4,24 +4,24 @@ use super::mnemonics::{opcodes, Group, JALR};
 use super::observe::{EDGES, EDGE_IMMEDIATES, EDGE_OFFSETS};
 use super::scene::{Place, Scene};
 use super::turn::Turn;
-use super::writer::Writer;
+use super::Sink;
 use crate::asm::{addi, long_offset, two_registers};
 use crate::processor::PSW_UC;
 
 const JR: u32 = 0x2B;
 
-pub fn cases(writer: &mut Writer, turn: &mut Turn) {
-    branches(writer, turn);
-    long_jumps(writer, turn);
-    indirect_jumps(writer, turn);
-    back_past_zero(writer);
-    ends_of_spaces(writer);
-    last_address(writer);
+pub fn cases(sink: &mut dyn Sink, turn: &mut Turn) {
+    branches(sink, turn);
+    long_jumps(sink, turn);
+    indirect_jumps(sink, turn);
+    back_past_zero(sink);
+    ends_of_spaces(sink);
+    last_address(sink);
 }
 
 /// Every pair of edge operands, the offsets going round; the second step
 /// fetches at the target.
-fn branches(writer: &mut Writer, turn: &mut Turn) {
+fn branches(sink: &mut dyn Sink, turn: &mut Turn) {
     for opcode in opcodes(Group::Branch) {
         let mut n = opcode as usize;
         for x in EDGES {
@@ -30,37 +30,37 @@ fn branches(writer: &mut Writer, turn: &mut Turn) {
                 n += 1;
                 let word = two_registers(opcode, 1, 2, offset as i32);
                 let scene = turn.scene(&[word]).set(1, x).set(2, y);
-                writer.quiet(&scene, 2);
+                sink.quiet(&scene, 2);
             }
             n += 1;
         }
     }
 }
 
-fn long_jumps(writer: &mut Writer, turn: &mut Turn) {
+fn long_jumps(sink: &mut dyn Sink, turn: &mut Turn) {
     for opcode in opcodes(Group::Jump) {
         for _ in 0..3 {
             for offset in EDGE_OFFSETS.into_iter().chain([2, 0x03FF_FFF0]) {
                 let scene = turn.scene(&[long_offset(opcode, offset as i32)]);
-                writer.quiet(&scene.set(31, 0x1234_5678), 2);
+                sink.quiet(&scene.set(31, 0x1234_5678), 2);
             }
         }
     }
 }
 
-fn indirect_jumps(writer: &mut Writer, turn: &mut Turn) {
+fn indirect_jumps(sink: &mut dyn Sink, turn: &mut Turn) {
     let targets = [0xE000_0080, 0xC000_0080, 0x0000_2080, 0x8000_3080];
     for opcode in [JR, JALR] {
         for register in [1, 30, 31, 0] {
             for target in targets {
                 let scene = turn.scene(&[two_registers(opcode, register, 0, 0)]);
-                writer.quiet(&scene.set(register, target), 3);
+                sink.quiet(&scene.set(register, target), 3);
             }
         }
         for target in targets {
             for low in 1..4 {
                 let scene = turn.scene(&[two_registers(opcode, 31, 0, 0)]);
-                writer.quiet(&scene.set(31, target + low), 2);
+                sink.quiet(&scene.set(31, target + low), 2);
             }
         }
     }
@@ -77,7 +77,7 @@ fn at_edge(pc: u32, word: u32, psw: u32) -> Scene {
 }
 
 /// Branches at 00000000 whose targets lie below it, modulo 2^32.
-fn back_past_zero(writer: &mut Writer) {
+fn back_past_zero(sink: &mut dyn Sink) {
     for psw in [0, PSW_UC] {
         for offset in [-2, -3, -0x8000] {
             let words = [
@@ -87,42 +87,42 @@ fn back_past_zero(writer: &mut Writer) {
                 long_offset(0x2C, offset),
             ];
             for word in words {
-                writer.quiet(&at_edge(0, word, psw), 3);
+                sink.quiet(&at_edge(0, word, psw), 3);
             }
         }
     }
 }
 
 /// The last address of a space, and the step on to the next.
-fn ends_of_spaces(writer: &mut Writer) {
+fn ends_of_spaces(sink: &mut dyn Sink) {
     for psw in [0, PSW_UC, PSW_UC | 0x0800_0000] {
         for word in [addi(1, 0, 1), two_registers(0x20, 1, 2, 0)] {
-            writer.quiet(&at_edge(0x7FFF_FFFC, word, psw), 3);
+            sink.quiet(&at_edge(0x7FFF_FFFC, word, psw), 3);
             let mut mapped = at_edge(0x7FFF_FFFC, word, psw);
             mapped.map(3, 0x8000_0000, 0x0000_1001);
-            writer.quiet(&mapped, 3);
+            sink.quiet(&mapped, 3);
         }
     }
     for psw in [0, 0x0800_0000] {
         for word in [addi(1, 0, 1), long_offset(0x2C, 0)] {
-            writer.quiet(&at_edge(0xBFFF_FFFC, word, psw), 3);
+            sink.quiet(&at_edge(0xBFFF_FFFC, word, psw), 3);
         }
     }
 }
 
 /// PC FFFFFFFC: nothing answers there, so R30 takes it and no PC follows it.
-fn last_address(writer: &mut Writer) {
+fn last_address(sink: &mut dyn Sink) {
     for v in [0, 0x0800_0000] {
         for psw in [0, PSW_UC] {
             let mut scene = Scene::new();
             scene.cpu.pc = 0xFFFF_FFFC;
             scene.cpu.psw = psw | v;
-            writer.quiet(&scene, 2);
+            sink.quiet(&scene, 2);
             scene.cpu.psw |= 0x0080_8001;
-            writer.case(&scene, &[0x8000, 0x8000]);
-            writer.case(&scene, &[0x4000, 0x0001]);
+            sink.case(&scene, &[0x8000, 0x8000]);
+            sink.case(&scene, &[0x4000, 0x0001]);
         }
         let jump = Place::KernelRam.scene(&[two_registers(JR, 9, 0, 0)]);
-        writer.quiet(&jump.set(9, 0xFFFF_FFFC).with_psw(v), 3);
+        sink.quiet(&jump.set(9, 0xFFFF_FFFC).with_psw(v), 3);
     }
 }

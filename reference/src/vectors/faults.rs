@@ -5,20 +5,20 @@ use super::mnemonics::{opcodes, Group, TRAP};
 use super::numbers::Numbers;
 use super::scene::{Place, Scene};
 use super::turn::Turn;
-use super::writer::Writer;
+use super::Sink;
 use crate::asm::{addi, two_registers};
 use crate::processor::{PSW_UC, PSW_V};
 
-pub fn cases(writer: &mut Writer, turn: &mut Turn, numbers: &mut Numbers) {
-    data_faults(writer, turn, numbers);
-    order_of_data_faults(writer, turn);
-    doubled_data_pages(writer, numbers);
-    doubled_code_pages(writer);
-    fetch_faults(writer);
-    mapped_code(writer);
-    high_frames(writer, turn, numbers);
-    without_address(writer, turn, numbers);
-    stacks_at_entry(writer);
+pub fn cases(sink: &mut dyn Sink, turn: &mut Turn, numbers: &mut Numbers) {
+    data_faults(sink, turn, numbers);
+    order_of_data_faults(sink, turn);
+    doubled_data_pages(sink, numbers);
+    doubled_code_pages(sink);
+    fetch_faults(sink);
+    mapped_code(sink);
+    high_frames(sink, turn, numbers);
+    without_address(sink, turn, numbers);
+    stacks_at_entry(sink);
 }
 
 /// Bad Address and Entry High hold something that a wrong fault would keep.
@@ -31,7 +31,7 @@ fn access(turn: &mut Turn, opcode: u32, address: u32) -> Scene {
     scene
 }
 
-fn data_faults(writer: &mut Writer, turn: &mut Turn, numbers: &mut Numbers) {
+fn data_faults(sink: &mut dyn Sink, turn: &mut Turn, numbers: &mut Numbers) {
     for opcode in 0x30..=0x37 {
         for space in [0x0000_0000, 0x7FFF_F000, 0x8000_0000, 0xBFFF_F000] {
             for _ in 0..2 {
@@ -39,13 +39,13 @@ fn data_faults(writer: &mut Writer, turn: &mut Turn, numbers: &mut Numbers) {
                 // A miss, and a neighbouring page present.
                 let mut scene = access(turn, opcode, address);
                 scene.map(5, (address & !0xFFF) ^ 0x1000, 0x0000_0003);
-                writer.quiet(&scene, 1);
+                sink.quiet(&scene, 1);
                 // An entry without the valid bit, without the write bit, and
                 // for a frame that nothing answers for.
                 for low in [0x0000_0000, 0x0000_0002, 0x0000_0001, 0x1000_0003] {
                     let mut scene = access(turn, opcode, address);
                     scene.map(5, address & !0xFFF, low);
-                    writer.quiet(&scene, 1);
+                    sink.quiet(&scene, 1);
                 }
             }
         }
@@ -57,20 +57,20 @@ fn data_faults(writer: &mut Writer, turn: &mut Turn, numbers: &mut Numbers) {
             0xFFFF_FFFF,
         ] {
             for _ in 0..2 {
-                writer.quiet(&access(turn, opcode, address), 1);
+                sink.quiet(&access(turn, opcode, address), 1);
             }
         }
     }
 }
 
 /// Accesses that break several rules at once.
-fn order_of_data_faults(writer: &mut Writer, turn: &mut Turn) {
+fn order_of_data_faults(sink: &mut dyn Sink, turn: &mut Turn) {
     for opcode in [0x30, 0x31, 0x32, 0x35, 0x36] {
         for address in [0x8000_2001, 0xC000_0003, 0x0000_5001] {
             for low in [0x0000_0000, 0x0000_0001, 0x1000_0001] {
                 let mut scene = access(turn, opcode, address);
                 scene.map(31, address & !0xFFF, low);
-                writer.quiet(&scene, 1);
+                sink.quiet(&scene, 1);
             }
         }
     }
@@ -78,13 +78,13 @@ fn order_of_data_faults(writer: &mut Writer, turn: &mut Turn) {
         for low in [0x0000_0000, 0x1000_0000, 0x1000_0001, 0x2000_0001] {
             let mut scene = access(turn, opcode, 0x0000_5000);
             scene.map(31, 0x0000_5000, low);
-            writer.quiet(&scene, 1);
+            sink.quiet(&scene, 1);
         }
     }
 }
 
 /// All bits of two entries with one page number.
-fn doubled_data_pages(writer: &mut Writer, numbers: &mut Numbers) {
+fn doubled_data_pages(sink: &mut dyn Sink, numbers: &mut Numbers) {
     for bits in 0..16 {
         for opcode in [0x30, 0x33, 0x35, 0x37] {
             let place = numbers.pick(&[Place::User, Place::KernelRom]);
@@ -94,13 +94,13 @@ fn doubled_data_pages(writer: &mut Writer, numbers: &mut Numbers) {
             scene.map(lower + 13, 0x0000_5000, 0x0000_1000 | bits >> 2);
             scene.put(0x0208, numbers.word());
             scene.put(0x1208, numbers.word());
-            writer.quiet(&scene.set(1, 0x0000_5200).set(2, numbers.word()), 1);
+            sink.quiet(&scene.set(1, 0x0000_5200).set(2, numbers.word()), 1);
         }
     }
 }
 
 /// The same for the page of the instruction: frame 0 adds 1, frame 1 adds 2.
-fn doubled_code_pages(writer: &mut Writer) {
+fn doubled_code_pages(sink: &mut dyn Sink) {
     for bits in 0..16 {
         for psw in [0, PSW_UC] {
             let mut scene = Scene::new();
@@ -110,12 +110,12 @@ fn doubled_code_pages(writer: &mut Writer) {
             scene.map(4, 0x0000_5000, 0x0000_1000 | bits >> 2);
             scene.put(0x0100, addi(1, 1, 1));
             scene.put(0x1100, addi(1, 1, 2));
-            writer.quiet(&scene, 1);
+            sink.quiet(&scene, 1);
         }
     }
 }
 
-fn fetch_faults(writer: &mut Writer) {
+fn fetch_faults(sink: &mut dyn Sink) {
     let pcs = [
         0x0000_0000,
         0x7FFF_FFFC,
@@ -142,7 +142,7 @@ fn fetch_faults(writer: &mut Writer) {
                 if let Some(low) = low {
                     scene.map(18, pc & !0xFFF, low);
                 }
-                writer.quiet(&scene, 1);
+                sink.quiet(&scene, 1);
                 if pc >= 0xC000_0000 {
                     break;
                 }
@@ -152,7 +152,7 @@ fn fetch_faults(writer: &mut Writer) {
 }
 
 /// Code in every region behind pages of both modes, and past its end.
-fn mapped_code(writer: &mut Writer) {
+fn mapped_code(sink: &mut dyn Sink) {
     for (frame, at) in [(0x1000, 0xFF8), (0x2000_0000, 0xFF8), (0x3050_0000, 0x3F8)] {
         for (page, psw) in [(0x0000_6000, PSW_UC), (0x0000_6000, 0), (0x9999_9000, 0)] {
             let mut scene = Scene::new();
@@ -161,16 +161,16 @@ fn mapped_code(writer: &mut Writer) {
             scene.map(0, page, frame | 1);
             scene.put(frame + at, addi(1, 1, 1));
             scene.put(frame + at + 4, addi(2, 2, -1));
-            writer.quiet(&scene, 3);
+            sink.quiet(&scene, 3);
             scene.map(1, page + 0x1000, 0x0000_2001);
-            writer.quiet(&scene, 3);
+            sink.quiet(&scene, 3);
         }
     }
 }
 
 /// Frames from 40000000 up, which no direct-mapped address reaches: no bit of
 /// the frame number is lost, so nothing answers there.
-fn high_frames(writer: &mut Writer, turn: &mut Turn, numbers: &mut Numbers) {
+fn high_frames(sink: &mut dyn Sink, turn: &mut Turn, numbers: &mut Numbers) {
     for frame in [
         0x4000_0000,
         0x8000_1000,
@@ -181,25 +181,25 @@ fn high_frames(writer: &mut Writer, turn: &mut Turn, numbers: &mut Numbers) {
         for opcode in [0x30, 0x32, 0x34, 0x35, 0x36, 0x37] {
             let mut scene = access(turn, opcode, 0x0000_5000 + (numbers.below(256) & !3));
             scene.map(11, 0x0000_5000, frame | 3);
-            writer.quiet(&scene, 1);
+            sink.quiet(&scene, 1);
         }
         for psw in [0, PSW_UC, PSW_V, PSW_UC | PSW_V] {
             let mut scene = Scene::new();
             scene.cpu.pc = 0x0000_5000 + (numbers.below(256) & !3);
             scene.cpu.psw = psw;
             scene.map(11, 0x0000_5000, frame | 1);
-            writer.quiet(&scene, 1);
+            sink.quiet(&scene, 1);
         }
     }
 }
 
 /// Illegal, privileged and trap instructions with any other bits.
-fn without_address(writer: &mut Writer, turn: &mut Turn, numbers: &mut Numbers) {
+fn without_address(sink: &mut dyn Sink, turn: &mut Turn, numbers: &mut Numbers) {
     let illegal = opcodes(Group::Illegal).chain([TRAP]);
     for opcode in illegal {
         for _ in 0..16 {
             let word = opcode << 26 | numbers.word() >> 6;
-            writer.quiet(&turn.scene(&[word]).set(30, numbers.word()), 1);
+            sink.quiet(&turn.scene(&[word]).set(30, numbers.word()), 1);
         }
     }
     for opcode in opcodes(Group::Privileged) {
@@ -207,13 +207,13 @@ fn without_address(writer: &mut Writer, turn: &mut Turn, numbers: &mut Numbers) 
             let word = opcode << 26 | numbers.word() >> 6;
             let mut scene = Place::User.scene(&[word]);
             scene.cpu.psw |= numbers.word() & 0x037F_FFFF | (n % 2) << 27;
-            writer.quiet(&scene.set(30, numbers.word()), 1);
+            sink.quiet(&scene.set(30, numbers.word()), 1);
         }
     }
 }
 
 /// Exception entry from all contents of the PSW's stacks.
-fn stacks_at_entry(writer: &mut Writer) {
+fn stacks_at_entry(sink: &mut dyn Sink) {
     for stacks in 0..64 {
         for v in [0, PSW_V] {
             let place = if stacks & 0o40 == 0 {
@@ -223,7 +223,7 @@ fn stacks_at_entry(writer: &mut Writer) {
             };
             let mut scene = place.scene(&[TRAP << 26]);
             scene.cpu.psw = stacks << 21 | v | 0x001F_0000;
-            writer.quiet(&scene, 2);
+            sink.quiet(&scene, 2);
         }
     }
 }

@@ -2,7 +2,9 @@
 
 use super::numbers::Numbers;
 use super::observe::EDGES;
-use super::scene::{Region, Scene};
+use super::scene::{Region, Scene, RAM_LENGTH};
+use crate::memory::Width;
+use crate::mmu::Access;
 use crate::processor::{KEPT_HIGH, KEPT_INDEX, KEPT_LOW, KEPT_PSW, PSW_IC, PSW_UC, PSW_V};
 
 /// Frames with RAM, with ROM, with the belt registers, and just past them.
@@ -43,9 +45,9 @@ pub fn operand(numbers: &mut Numbers) -> u32 {
 }
 
 /// An aligned address in a region, by the direct-mapped space.
-pub fn direct_address(numbers: &mut Numbers) -> u32 {
+pub fn direct_address(scene: &Scene, numbers: &mut Numbers) -> u32 {
     let region = numbers.pick(&Region::ALL);
-    region.direct() + (numbers.below(region.length()) & !3)
+    region.direct() + (numbers.below(scene.length(region)) & !3)
 }
 
 /// An address in the page of a TLB entry below `limit`, if there is one.
@@ -67,21 +69,15 @@ pub fn mapped_address(scene: &Scene, numbers: &mut Numbers, limit: u32) -> Optio
 
 /// Whether a word could be fetched at an address.
 pub fn executable(scene: &Scene, address: u32, user: bool) -> bool {
-    let mut other = scene.cpu.clone();
-    other.psw = if user { PSW_UC } else { 0 };
-    other
-        .translate(
-            address,
-            crate::memory::Width::Word,
-            crate::mmu::Access::Load,
-            user,
-        )
-        .is_ok_and(|physical| Region::of(physical).is_some())
+    scene
+        .cpu
+        .translate(address, Width::Word, Access::Load, user)
+        .is_ok_and(|physical| scene.locate(physical).is_some())
 }
 
-/// A machine with memory of zeros. One in twenty is filled to the last word.
-pub fn machine(numbers: &mut Numbers) -> Scene {
-    let mut scene = Scene::new();
+/// Makes a random machine over the memory of a scene. One in twenty has all
+/// registers and TLB entries set.
+pub fn machine(mut scene: Scene, numbers: &mut Numbers) -> Scene {
     let full = numbers.percent(5);
     translations(&mut scene, numbers, full);
     scene.cpu.psw = status(numbers);
@@ -110,6 +106,15 @@ fn status(numbers: &mut Numbers) -> u32 {
     (mode | v | enable | lower) & KEPT_PSW
 }
 
+/// A frame for a TLB entry; any frame of a RAM longer than that of the set.
+fn frame(scene: &Scene, numbers: &mut Numbers) -> u32 {
+    if scene.ram.len() > RAM_LENGTH && numbers.percent(40) {
+        numbers.below(scene.length(Region::Ram)) & !0xFFF
+    } else {
+        numbers.pick(&FRAMES)
+    }
+}
+
 fn translations(scene: &mut Scene, numbers: &mut Numbers, full: bool) {
     for n in 0..if full { 32 } else { 6 } {
         let index = if full { n } else { numbers.below(32) as usize };
@@ -118,7 +123,7 @@ fn translations(scene: &mut Scene, numbers: &mut Numbers, full: bool) {
         } else {
             numbers.pick(&PAGES)
         };
-        let frame = numbers.pick(&FRAMES);
+        let frame = frame(scene, numbers);
         let bits = numbers.pick(&[3, 3, 3, 3, 1, 1, 0, 2]);
         scene.map(index, page, frame | bits);
     }
@@ -132,7 +137,7 @@ fn registers(scene: &mut Scene, numbers: &mut Numbers, full: bool) {
         let value = if POINTERS.contains(&number) || numbers.percent(10) {
             let mapped = mapped_address(scene, numbers, 0xC000_0000);
             match numbers.below(3) {
-                0 => direct_address(numbers),
+                0 => direct_address(scene, numbers),
                 _ => mapped.unwrap_or(0xC000_0000),
             }
         } else if full || !(8..30).contains(&number) {
@@ -153,7 +158,7 @@ fn first_pc(scene: &Scene, numbers: &mut Numbers) -> u32 {
         let pc = if user || numbers.percent(40) {
             mapped
         } else {
-            direct_address(numbers)
+            direct_address(scene, numbers)
         };
         if executable(scene, pc, user) {
             return pc;

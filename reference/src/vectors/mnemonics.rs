@@ -9,6 +9,7 @@ const MNEMONICS: [&str; 64] = [
     "3E", "3F",
 ];
 
+pub const LDHI: u32 = 0x1F;
 pub const TRAP: u32 = 0x2E;
 pub const RFX: u32 = 0x2F;
 pub const JALR: u32 = 0x2D;
@@ -45,7 +46,7 @@ pub fn mnemonic(opcode: u32) -> &'static str {
 pub fn group(opcode: u32) -> Group {
     match opcode & 63 {
         0x1E | 0x3E | 0x3F => Group::Illegal,
-        0x1F => Group::Immediate,
+        LDHI => Group::Immediate,
         op @ 0x00..=0x1D if op % 2 == 0 => Group::Register,
         0x00..=0x1D => Group::Immediate,
         0x20..=0x29 => Group::Branch,
@@ -55,6 +56,17 @@ pub fn group(opcode: u32) -> Group {
         0x30..=0x34 => Group::Load,
         0x35..=0x37 => Group::Store,
         _ => Group::Privileged,
+    }
+}
+
+/// Bits of an instruction word that have no effect (manual chapter 3).
+pub fn ignored_bits(opcode: u32) -> u32 {
+    match (opcode & 63, group(opcode)) {
+        (_, Group::Register) => 0x0000_07FF,
+        (LDHI | MVFS | MVTS, _) => 0x03E0_0000,
+        (_, Group::Indirect) => 0x001F_FFFF,
+        (_, Group::Trap | Group::Privileged) => 0x03FF_FFFF,
+        _ => 0,
     }
 }
 

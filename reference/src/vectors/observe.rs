@@ -2,10 +2,10 @@
 
 use super::access;
 use super::mnemonics::{mnemonic, MVTS, RFX};
-use super::scene::{Region, Scene};
+use super::scene::Scene;
 use super::tally::Tally;
-use crate::exception::NO_EXCEPTION;
-use crate::processor::{PSW_IC, PSW_V};
+use crate::exception::{Fault, NO_EXCEPTION};
+use crate::processor::{Processor, PSW_IC, PSW_V};
 
 /// Operands and immediates at the edges of their ranges.
 pub const EDGES: [u32; 5] = [0, 1, 0x7FFF_FFFF, 0x8000_0000, 0xFFFF_FFFF];
@@ -13,18 +13,21 @@ pub const EDGE_IMMEDIATES: [u32; 5] = [0, 1, 0x7FFF, 0x8000, 0xFFFF];
 pub const EDGE_OFFSETS: [u32; 5] = [0, 1, 0x01FF_FFFF, 0x0200_0000, 0x03FF_FFFF];
 pub const SHIFT_COUNTS: [u32; 4] = [0, 31, 32, 33];
 
-pub fn mode_name(scene: &Scene) -> &'static str {
-    if scene.cpu.user_mode() {
+pub fn mode_name(cpu: &Processor) -> &'static str {
+    if cpu.user_mode() {
         "User Mode"
     } else {
         "Kernel Mode"
     }
 }
 
-/// A step, with the instruction word if one was fetched.
+/// A step: the processor before it and after it, the lengths of memory, and
+/// the instruction word, or 0 if none was fetched.
 pub struct Step<'a> {
-    pub before: &'a Scene,
-    pub after: &'a Scene,
+    pub before: &'a Processor,
+    pub after: &'a Processor,
+    pub scene: &'a Scene,
+    pub fetched: Result<(u32, u32), Fault>,
     pub lines: u16,
     pub eid: u32,
     pub word: u32,
@@ -38,13 +41,13 @@ impl Step<'_> {
     /// Register in bits 25..21, and its contents before the step.
     pub fn x(&self) -> (u32, u32) {
         let number = self.word >> 21 & 31;
-        (number, self.before.cpu.register(number))
+        (number, self.before.register(number))
     }
 
     /// Register in bits 20..16, and its contents before the step.
     pub fn y(&self) -> (u32, u32) {
         let number = self.word >> 16 & 31;
-        (number, self.before.cpu.register(number))
+        (number, self.before.register(number))
     }
 
     pub fn immediate(&self) -> u32 {
@@ -83,33 +86,43 @@ impl Observer {
         self.tally.add("cases", length);
     }
 
-    pub fn step(&mut self, before: &Scene, lines: u16, eid: u32, after: &Scene) {
-        let mut step = Step {
-            before,
-            after,
+    /// Makes a step of a scene and counts what it covers.
+    pub fn step(&mut self, scene: &mut Scene, lines: u16) -> u32 {
+        let fetched = scene.fetched();
+        let before = scene.cpu.clone();
+        let eid = scene.step(lines);
+        self.count(&Step {
+            before: &before,
+            after: &scene.cpu,
+            scene,
+            fetched,
             lines,
             eid,
-            word: 0,
-        };
-        self.general(&step);
-        self.interrupt_lines(&step);
-        if eid < 16 {
-            self.accepted_interrupt(&step);
+            word: fetched.map_or(0, |(_, word)| word),
+        });
+        eid
+    }
+
+    fn count(&mut self, step: &Step) {
+        self.general(step);
+        self.interrupt_lines(step);
+        if step.eid < 16 {
+            self.accepted_interrupt(step);
             self.previous = None;
             return;
         }
-        self.program_counter(&step);
-        match before.fetched() {
-            Ok((physical, word)) => {
-                step.word = word;
-                self.fetched(&step, physical);
-                self.instruction(&step);
+        self.program_counter(step);
+        match step.fetched {
+            Ok((physical, _)) => {
+                self.fetched(step, physical);
+                self.instruction(step);
                 self.previous = step.completed().then_some(step.opcode());
             }
             Err(fault) => {
-                let item = format!("{} in {}", fault.eid(), mode_name(before));
+                let item = format!("{} in {}", fault.eid(), mode_name(step.before));
                 self.tally.add("fault of the fetch", item);
-                access::translation(&mut self.tally, before, before.cpu.pc, "fetch", eid);
+                let pc = step.before.pc;
+                access::translation(&mut self.tally, step.before, pc, "fetch", step.eid);
                 self.previous = None;
             }
         }
@@ -119,7 +132,7 @@ impl Observer {
         self.tally.add("set", "steps");
         self.tally
             .add("steps", format!("in {}", mode_name(step.before)));
-        let v = u32::from(step.before.cpu.psw & PSW_V != 0);
+        let v = u32::from(step.before.psw & PSW_V != 0);
         self.tally.add("steps", format!("with V {v}"));
         if step.completed() {
             return;
@@ -129,14 +142,14 @@ impl Observer {
         self.tally.add("exception by V", format!("EID {eid} V {v}"));
         let item = format!("EID {eid} {}", mode_name(step.before));
         self.tally.add("exception by mode", item);
-        let stacks = step.before.cpu.psw >> 21 & 63;
+        let stacks = step.before.psw >> 21 & 63;
         self.tally
             .add("PSW stacks at entry", format!("{stacks:02o}"));
     }
 
     /// Lines that no interrupt answers.
     fn interrupt_lines(&mut self, step: &Step) {
-        let psw = step.before.cpu.psw;
+        let psw = step.before.psw;
         let ready = u32::from(step.lines) & psw & 0xFFFF;
         if step.lines != 0 && ready == 0 && psw & PSW_IC != 0 {
             self.tally.add("interrupt", "masked by IEN");
@@ -147,7 +160,7 @@ impl Observer {
     }
 
     fn accepted_interrupt(&mut self, step: &Step) {
-        let (channel, psw) = (step.eid, step.before.cpu.psw);
+        let (channel, psw) = (step.eid, step.before.psw);
         let ready = u32::from(step.lines) & psw & 0xFFFF;
         let alone = if ready.count_ones() == 1 {
             "alone"
@@ -158,7 +171,7 @@ impl Observer {
         if u32::from(step.lines) & !psw & ((1 << channel) - 1) != 0 {
             self.tally.add("interrupt", "above a masked line");
         }
-        let instead = match step.before.fetched() {
+        let instead = match step.fetched {
             Err(fault) => format!("before a fetch with fault {}", fault.eid()),
             Ok((_, word)) => format!("before {}", mnemonic(word >> 26)),
         };
@@ -167,13 +180,13 @@ impl Observer {
             self.tally
                 .add("interrupt", format!("right after {}", mnemonic(opcode)));
         }
-        if step.before.cpu.pc == 0xFFFF_FFFC {
+        if step.before.pc == 0xFFFF_FFFC {
             self.tally.add("PC", "FFFFFFFC interrupted");
         }
     }
 
     fn program_counter(&mut self, step: &Step) {
-        let (pc, next) = (step.before.cpu.pc, step.after.cpu.pc);
+        let (pc, next) = (step.before.pc, step.after.pc);
         if pc % 4 != 0 {
             self.tally.add("PC", format!("ends in {}", pc % 4));
         }
@@ -191,9 +204,9 @@ impl Observer {
     }
 
     fn fetched(&mut self, step: &Step, physical: u32) {
-        let pc = step.before.cpu.pc;
+        let pc = step.before.pc;
         let how = if pc < 0xC000_0000 { "mapped" } else { "direct" };
-        if let Some((region, _)) = Region::of(physical) {
+        if let Some((region, _)) = step.scene.locate(physical) {
             let item = format!("{} {how}", region.name());
             self.tally.add("fetch", item);
         }

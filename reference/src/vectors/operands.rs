@@ -1,7 +1,9 @@
 //! What an instruction covers by its operands and its effect.
 
 use super::access;
-use super::mnemonics::{group, mnemonic, Group, MVFS, MVTS, RFX, TBRI, TBS, TBWI, TBWR};
+use super::mnemonics::{
+    group, ignored_bits, mnemonic, Group, MVFS, MVTS, RFX, TBRI, TBS, TBWI, TBWR,
+};
 use super::observe::{
     mode_name, Observer, Step, EDGES, EDGE_IMMEDIATES, EDGE_OFFSETS, SHIFT_COUNTS,
 };
@@ -14,6 +16,9 @@ impl Observer {
             self.tally.add("completed", name);
             self.tally
                 .add("completed by mode", format!("{name} {mode}"));
+        }
+        if ignored_bits(opcode) & step.word != 0 {
+            self.tally.add("ignored bits set", format!("{name} {mode}"));
         }
         match group(opcode) {
             Group::Illegal => self.tally.add("illegal", format!("{name} in {mode}")),
@@ -28,7 +33,7 @@ impl Observer {
             Group::Privileged => {
                 self.tally.add("refused by 18", name);
                 if opcode == RFX {
-                    let stacks = step.before.cpu.psw >> 21 & 63;
+                    let stacks = step.before.psw >> 21 & 63;
                     self.tally
                         .add("RFX from PSW stacks", format!("{stacks:02o}"));
                 }
@@ -89,7 +94,7 @@ impl Observer {
     }
 
     fn branch(&mut self, step: &Step) {
-        let taken = step.after.cpu.pc != step.before.cpu.pc.wrapping_add(4);
+        let taken = step.after.pc != step.before.pc.wrapping_add(4);
         let way = if taken { "taken" } else { "not taken" };
         self.tally
             .add("branch", format!("{} {way}", mnemonic(step.opcode())));
@@ -118,7 +123,7 @@ impl Observer {
     }
 
     fn system(&mut self, step: &Step) {
-        let (cpu, after) = (&step.before.cpu, &step.after.cpu);
+        let (cpu, after) = (step.before, step.after);
         let bit_31 = cpu.tlb_index >> 31;
         let index = cpu.tlb_index & 31;
         let (number, name) = (step.immediate(), mnemonic(step.opcode()));

@@ -1,6 +1,6 @@
 //! What the set of vectors must hold.
 
-use super::mnemonics::{group, mnemonic, opcodes, Group};
+use super::mnemonics::{group, ignored_bits, mnemonic, opcodes, Group};
 use super::observe::{EDGES, EDGE_IMMEDIATES, EDGE_OFFSETS, SHIFT_COUNTS};
 use super::tally::Required;
 
@@ -75,6 +75,12 @@ fn instructions(list: &mut List) {
                 let item = format!("{} {mode}", mnemonic(opcode));
                 list.add("completed by mode", 8, item);
             }
+        }
+    }
+    for opcode in (0..64).filter(|&op| ignored_bits(op) != 0) {
+        for mode in MODES {
+            let item = format!("{} {mode}", mnemonic(opcode));
+            list.add("ignored bits set", 4, item);
         }
     }
     list.all("trap", 24, &MODES);

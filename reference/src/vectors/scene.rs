@@ -28,14 +28,6 @@ impl Region {
         }
     }
 
-    pub fn length(self) -> u32 {
-        match self {
-            Region::Ram => RAM_LENGTH as u32,
-            Region::Rom => ROM_LENGTH as u32,
-            Region::Belt => BELT_LENGTH as u32,
-        }
-    }
-
     /// First address of the region in the direct-mapped space.
     pub fn direct(self) -> u32 {
         DIRECT_BASE + self.base()
@@ -48,14 +40,6 @@ impl Region {
             Region::Belt => "belt",
         }
     }
-
-    /// The region with a physical address, and the offset in it.
-    pub fn of(physical: u32) -> Option<(Region, usize)> {
-        Region::ALL.into_iter().find_map(|region| {
-            let offset = physical.checked_sub(region.base())?;
-            (offset < region.length()).then_some((region, offset as usize))
-        })
-    }
 }
 
 #[derive(Clone, PartialEq)]
@@ -67,14 +51,39 @@ pub struct Scene {
 }
 
 impl Scene {
-    /// The reset machine with memory of zeros.
+    /// The reset machine with memory of zeros, of the lengths of the set.
     pub fn new() -> Scene {
+        Scene::sized(RAM_LENGTH, ROM_LENGTH)
+    }
+
+    /// The same with other lengths of RAM and ROM.
+    pub fn sized(ram: usize, rom: usize) -> Scene {
         Scene {
             cpu: Processor::reset(),
-            ram: vec![0; RAM_LENGTH],
-            rom: vec![0; ROM_LENGTH],
+            ram: vec![0; ram],
+            rom: vec![0; rom],
             belt: vec![0; BELT_LENGTH],
         }
+    }
+
+    pub fn region(&self, region: Region) -> &[u8] {
+        match region {
+            Region::Ram => &self.ram,
+            Region::Rom => &self.rom,
+            Region::Belt => &self.belt,
+        }
+    }
+
+    pub fn length(&self, region: Region) -> u32 {
+        self.region(region).len() as u32
+    }
+
+    /// The region with a physical address, and the offset in it.
+    pub fn locate(&self, physical: u32) -> Option<(Region, usize)> {
+        Region::ALL.into_iter().find_map(|region| {
+            let offset = physical.checked_sub(region.base())?;
+            (offset < self.length(region)).then_some((region, offset as usize))
+        })
     }
 
     pub fn region_mut(&mut self, region: Region) -> &mut [u8] {
@@ -87,7 +96,7 @@ impl Scene {
 
     /// Puts a word at an aligned physical address; nothing where no memory is.
     pub fn put(&mut self, physical: u32, word: u32) {
-        if let Some((region, at)) = Region::of(physical & !3) {
+        if let Some((region, at)) = self.locate(physical & !3) {
             self.region_mut(region)[at..at + 4].copy_from_slice(&word.to_be_bytes());
         }
     }
@@ -125,19 +134,14 @@ impl Scene {
     /// Physical address of an access by the present mode.
     pub fn physical(&self, address: u32, width: Width, access: Access) -> Result<u32, Fault> {
         self.cpu
-            .translate(address, width, access, self.cpu.psw & PSW_UC != 0)
+            .translate(address, width, access, self.cpu.user_mode())
     }
 
     /// The word at the PC, if it can be fetched, with its physical address.
     pub fn fetched(&self) -> Result<(u32, u32), Fault> {
         let physical = self.physical(self.cpu.pc, Width::Word, Access::Load)?;
-        let (region, at) = Region::of(physical).ok_or(Fault::BusTimeout)?;
-        let bytes = match region {
-            Region::Ram => &self.ram,
-            Region::Rom => &self.rom,
-            Region::Belt => &self.belt,
-        };
-        let word = bytes[at..at + 4]
+        let (region, at) = self.locate(physical).ok_or(Fault::BusTimeout)?;
+        let word = self.region(region)[at..at + 4]
             .iter()
             .fold(0, |value, &byte| value << 8 | u32::from(byte));
         Ok((physical, word))

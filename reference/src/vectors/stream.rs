@@ -13,7 +13,7 @@ use crate::processor::PSW_IC;
 use std::collections::HashSet;
 
 /// Interrupt lines: one channel, or several.
-fn random_lines(numbers: &mut Numbers) -> u16 {
+pub fn random_lines(numbers: &mut Numbers) -> u16 {
     if numbers.percent(60) {
         1 << numbers.below(16)
     } else {
@@ -41,7 +41,7 @@ impl Stream {
 
     /// A stream of so many steps from a random machine.
     pub fn random(numbers: &mut Numbers, steps: u32) -> Stream {
-        let mut stream = Stream::new(machines::machine(numbers));
+        let mut stream = Stream::new(machines::machine(Scene::new(), numbers));
         let busy = numbers.pick(&[0, 5, 15, 40]);
         for _ in 0..steps {
             let lines = if numbers.percent(busy) {
@@ -54,14 +54,15 @@ impl Stream {
         stream
     }
 
-    pub fn step(&mut self, numbers: &mut Numbers, lines: u16) {
+    /// Makes one step; answers its EID, or 32.
+    pub fn step(&mut self, numbers: &mut Numbers, lines: u16) -> u32 {
         let psw = self.now.cpu.psw;
         let interrupted = psw & PSW_IC != 0 && psw & u32::from(lines) != 0;
         if !interrupted {
             self.choose(numbers);
         }
-        self.now.step(lines);
         self.lines.push(lines);
+        self.now.step(lines)
     }
 
     fn choose(&mut self, numbers: &mut Numbers) {

@@ -5,16 +5,16 @@ use super::numbers::Numbers;
 use super::required::SPECIAL_NUMBERS;
 use super::scene::Scene;
 use super::turn::Turn;
-use super::writer::Writer;
+use super::Sink;
 use crate::asm::two_registers;
 use crate::processor::{KEPT_HIGH, KEPT_INDEX, KEPT_LOW, PSW_UC};
 
-pub fn cases(writer: &mut Writer, turn: &mut Turn, numbers: &mut Numbers) {
-    special_registers(writer, turn, numbers);
-    searches(writer, turn, numbers);
-    random_writes(writer, turn, numbers);
-    indexed(writer, turn, numbers);
-    returns(writer, turn, numbers);
+pub fn cases(sink: &mut dyn Sink, turn: &mut Turn, numbers: &mut Numbers) {
+    special_registers(sink, turn, numbers);
+    searches(sink, turn, numbers);
+    random_writes(sink, turn, numbers);
+    indexed(sink, turn, numbers);
+    returns(sink, turn, numbers);
 }
 
 fn fill_specials(scene: &mut Scene, numbers: &mut Numbers) {
@@ -25,7 +25,7 @@ fn fill_specials(scene: &mut Scene, numbers: &mut Numbers) {
 }
 
 /// Moves from and to each number; all ones show the kept bits.
-fn special_registers(writer: &mut Writer, turn: &mut Turn, numbers: &mut Numbers) {
+fn special_registers(sink: &mut dyn Sink, turn: &mut Turn, numbers: &mut Numbers) {
     for number in SPECIAL_NUMBERS {
         let z = number as i32;
         for register in [3, 3, 0] {
@@ -33,13 +33,13 @@ fn special_registers(writer: &mut Writer, turn: &mut Turn, numbers: &mut Numbers
             let mut scene = turn.kernel(&words).set(3, numbers.word());
             fill_specials(&mut scene, numbers);
             scene.cpu.psw |= numbers.word() & 0x037F_FFFF;
-            writer.quiet(&scene, 2);
+            sink.quiet(&scene, 2);
         }
         for value in [0xFFFF_FFFF, 0xFFFF_FFFF, 0, numbers.word() & !PSW_UC] {
             let words = [two_registers(MVTS, 9, 3, z), two_registers(MVFS, 0, 4, z)];
             let mut scene = turn.kernel(&words).set(3, value);
             fill_specials(&mut scene, numbers);
-            writer.quiet(&scene, 2);
+            sink.quiet(&scene, 2);
         }
     }
     for number in [5, 6, 0x0104, 0x8001, 0x7FFF] {
@@ -47,41 +47,41 @@ fn special_registers(writer: &mut Writer, turn: &mut Turn, numbers: &mut Numbers
             two_registers(MVTS, 0, 3, number),
             two_registers(MVFS, 0, 3, number),
         ];
-        writer.quiet(&turn.kernel(&words).set(3, 0xFFFF_FFFF), 2);
+        sink.quiet(&turn.kernel(&words).set(3, 0xFFFF_FFFF), 2);
     }
 }
 
 /// TBS with a match at each index, valid or not, doubled, and without one.
-fn searches(writer: &mut Writer, turn: &mut Turn, numbers: &mut Numbers) {
+fn searches(sink: &mut dyn Sink, turn: &mut Turn, numbers: &mut Numbers) {
     for index in 0..32 {
         let mut scene = turn.kernel(&[TBS << 26]);
         fill_specials(&mut scene, numbers);
         let high = scene.cpu.entry_high;
         scene.map(index, high, numbers.word() & KEPT_LOW);
-        writer.quiet(&scene, 1);
+        sink.quiet(&scene, 1);
         scene.map((index + 7) % 32, high, numbers.word() & KEPT_LOW);
-        writer.quiet(&scene, 1);
+        sink.quiet(&scene, 1);
         scene.cpu.entry_high = high ^ 0x0000_1000 << numbers.below(20);
-        writer.quiet(&scene, 1);
+        sink.quiet(&scene, 1);
     }
     // The page of the entries at reset is found as well.
     let mut scene = turn.kernel(&[TBS << 26]);
     scene.cpu.entry_high = 0xC000_0000;
-    writer.quiet(&scene, 1);
+    sink.quiet(&scene, 1);
 }
 
 /// TBWR at each replacement index, then TBS for what it wrote, and TBWR again.
-fn random_writes(writer: &mut Writer, turn: &mut Turn, numbers: &mut Numbers) {
+fn random_writes(sink: &mut dyn Sink, turn: &mut Turn, numbers: &mut Numbers) {
     for index in 4..32 {
         let mut scene = turn.kernel(&[TBWR << 26, TBS << 26, TBWR << 26]);
         fill_specials(&mut scene, numbers);
         scene.cpu.replacement = index;
-        writer.quiet(&scene, 3);
+        sink.quiet(&scene, 3);
     }
 }
 
 /// TBRI and TBWI at each index, bit 31 clear and set.
-fn indexed(writer: &mut Writer, turn: &mut Turn, numbers: &mut Numbers) {
+fn indexed(sink: &mut dyn Sink, turn: &mut Turn, numbers: &mut Numbers) {
     for index in 0..32 {
         for bit_31 in [0, 0x8000_0000] {
             let mut scene = turn.kernel(&[TBRI << 26]);
@@ -91,17 +91,17 @@ fn indexed(writer: &mut Writer, turn: &mut Turn, numbers: &mut Numbers) {
             if scene.cpu.tlb[index as usize].high == 0xC000_0000 {
                 scene.map(index as usize, high, low);
             }
-            writer.quiet(&scene, 1);
+            sink.quiet(&scene, 1);
             let mut scene = turn.kernel(&[TBWI << 26, TBS << 26, TBRI << 26]);
             fill_specials(&mut scene, numbers);
             scene.cpu.tlb_index = bit_31 | index;
-            writer.quiet(&scene, 3);
+            sink.quiet(&scene, 3);
         }
     }
 }
 
 /// RFX from all contents of the PSW's stacks, refused in User Mode.
-fn returns(writer: &mut Writer, turn: &mut Turn, numbers: &mut Numbers) {
+fn returns(sink: &mut dyn Sink, turn: &mut Turn, numbers: &mut Numbers) {
     for stacks in 0..64 {
         for _ in 0..2 {
             let kernel = stacks & 0o40 == 0;
@@ -112,7 +112,7 @@ fn returns(writer: &mut Writer, turn: &mut Turn, numbers: &mut Numbers) {
             };
             scene.cpu.psw |= stacks << 21 | numbers.word() & 0x001F_FFFF;
             let target = numbers.pick(&[0xE000_0020, 0xC000_0020, 0x0000_2080, 0x8000_3001]);
-            writer.quiet(&scene.set(30, target), 2);
+            sink.quiet(&scene.set(30, target), 2);
         }
     }
 }

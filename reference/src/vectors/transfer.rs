@@ -4,7 +4,7 @@ use super::access::width_of;
 use super::numbers::Numbers;
 use super::scene::{Region, Scene};
 use super::turn::Turn;
-use super::writer::Writer;
+use super::Sink;
 use crate::asm::two_registers;
 use crate::memory::Width;
 
@@ -32,29 +32,30 @@ impl Bases {
     }
 }
 
-pub fn cases(writer: &mut Writer, turn: &mut Turn, numbers: &mut Numbers) {
+pub fn cases(sink: &mut dyn Sink, turn: &mut Turn, numbers: &mut Numbers) {
     let mut bases = Bases::default();
     for opcode in OPCODES {
         for region in Region::ALL {
+            let length = Scene::new().length(region);
             for way in [Way::Direct, Way::User, Way::KernelLow, Way::KernelHigh] {
-                for offset in offsets(region, width_of(opcode)) {
+                for offset in offsets(length, width_of(opcode)) {
                     let physical = region.base().wrapping_add(offset as u32);
                     let scene = reach(turn, numbers, &mut bases, opcode, way, physical);
                     if let Some(scene) = scene {
-                        writer.quiet(&scene, 1);
+                        sink.quiet(&scene, 1);
                     }
                 }
             }
         }
-        edge_immediates(writer, turn, numbers, opcode);
+        edge_immediates(sink, turn, numbers, opcode);
     }
-    same_register(writer, turn, numbers);
+    same_register(sink, turn, numbers);
 }
 
 /// Offsets from the region's base: its ends from both sides, each byte of a
 /// word, and one inside.
-fn offsets(region: Region, width: Width) -> Vec<i64> {
-    let length = i64::from(region.length());
+fn offsets(length: u32, width: Width) -> Vec<i64> {
+    let length = i64::from(length);
     let bytes = width.bytes() as i64;
     let mut offsets = vec![0, 4, 0x204, length - bytes, length, length + 12, -bytes];
     match width {
@@ -100,7 +101,7 @@ fn reach(
 }
 
 /// The edge immediates with an address in RAM.
-fn edge_immediates(writer: &mut Writer, turn: &mut Turn, numbers: &mut Numbers, opcode: u32) {
+fn edge_immediates(sink: &mut dyn Sink, turn: &mut Turn, numbers: &mut Numbers, opcode: u32) {
     for immediate in [0, 1, 0x7FFF, -0x8000, -1] {
         for _ in 0..2 {
             let register = 2 * numbers.below(2);
@@ -109,30 +110,30 @@ fn edge_immediates(writer: &mut Writer, turn: &mut Turn, numbers: &mut Numbers, 
             let at = 0x300 + 4 * numbers.below(32);
             scene.put(at, numbers.word());
             let base = (0xC000_0000 + at).wrapping_sub(immediate as u32);
-            writer.quiet(&scene.set(1, base).set(2, numbers.word()), 1);
+            sink.quiet(&scene.set(1, base).set(2, numbers.word()), 1);
         }
     }
 }
 
 /// The base register loaded or stored, and register 0 as the base.
-fn same_register(writer: &mut Writer, turn: &mut Turn, numbers: &mut Numbers) {
+fn same_register(sink: &mut dyn Sink, turn: &mut Turn, numbers: &mut Numbers) {
     for opcode in OPCODES {
         for _ in 0..2 {
             let mut scene = turn.either_mode(&[two_registers(opcode, 1, 1, 0x10)]);
             scene.map(15, 0x0000_5000, 0x0000_0003);
             scene.put(0x90, numbers.word());
-            writer.quiet(&scene.set(1, 0x0000_5080), 1);
+            sink.quiet(&scene.set(1, 0x0000_5080), 1);
             let mut scene = turn.either_mode(&[two_registers(opcode, 0, 2, 0x10)]);
             scene.map(15, 0x0000_0000, 0x0000_0003);
             scene.put(0x10, numbers.word());
-            writer.quiet(&scene.set(2, numbers.word()), 1);
+            sink.quiet(&scene.set(2, numbers.word()), 1);
         }
         // Sums past both ends of the 32 bits.
         for (base, offset) in [(0xFFFF_FFFC, 8), (4, -8), (0, -0x8000)] {
             let mut scene = turn.either_mode(&[two_registers(opcode, 1, 2, offset)]);
             scene.map(15, 0x0000_0000, 0x0000_0003);
             scene.put(4, numbers.word());
-            writer.quiet(&scene.set(1, base).set(2, numbers.word()), 1);
+            sink.quiet(&scene.set(1, base).set(2, numbers.word()), 1);
         }
     }
 }

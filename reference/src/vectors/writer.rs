@@ -7,6 +7,7 @@
 
 use super::observe::Observer;
 use super::scene::Scene;
+use super::Sink;
 use crate::processor::Processor;
 use crate::record::{write_record, RECORD_LENGTH};
 
@@ -94,8 +95,16 @@ impl Writer {
         self.patch_region(BELT_WORD, &from.belt, &to.belt);
     }
 
-    /// Writes a case: a step of `start` for each number of `lines`.
-    pub fn case(&mut self, start: &Scene, lines: &[u16]) {
+    /// Ends the file.
+    pub fn finish(mut self) -> (Vec<u8>, Observer) {
+        self.command(END, 0, self.cases);
+        (self.bytes, self.observer)
+    }
+}
+
+impl Sink for Writer {
+    /// Writes a case with what each step has to give.
+    fn case(&mut self, start: &Scene, lines: &[u16]) {
         self.cases += 1;
         self.command(CLEAR, 0, 0);
         self.patch(&Scene::new(), start);
@@ -104,21 +113,9 @@ impl Writer {
         let mut scene = start.clone();
         for &lines in lines {
             let before = scene.clone();
-            let eid = scene.step(lines);
+            let eid = self.observer.step(&mut scene, lines);
             self.patch(&before, &scene);
             self.command(STEP, usize::from(lines), eid);
-            self.observer.step(&before, lines, eid, &scene);
         }
-    }
-
-    /// Writes a case without interrupt lines.
-    pub fn quiet(&mut self, start: &Scene, steps: usize) {
-        self.case(start, &vec![0; steps]);
-    }
-
-    /// Ends the file.
-    pub fn finish(mut self) -> (Vec<u8>, Observer) {
-        self.command(END, 0, self.cases);
-        (self.bytes, self.observer)
     }
 }
