@@ -1,0 +1,79 @@
+//! The library and the simulator side by side on the same calls.
+
+use crate::watch;
+use crate::world::{Call, Outcome, World};
+use eco32_reference::vectors::observe::Observer;
+use eco32_reference::vectors::tally::Tally;
+
+/// What differs, in words; the end of the test.
+pub type Difference = String;
+
+pub struct Bench {
+    pub library: World,
+    pub simulator: World,
+}
+
+impl Bench {
+    pub fn new(world: World) -> Bench {
+        Bench {
+            library: world.clone(),
+            simulator: world,
+        }
+    }
+
+    /// Makes one call on both sides and compares the answers and all bytes.
+    pub fn call(&mut self, call: Call, tally: &mut Tally) -> Result<Outcome, Difference> {
+        watch::call();
+        let wanted = call.simulator(&mut self.simulator);
+        let found = call.library(&mut self.library);
+        if found != wanted {
+            return Err(format!(
+                "{call:?}: the library answers {found:?}, the simulator {wanted:?}"
+            ));
+        }
+        let names = ["the library has", "the simulator"];
+        if let Some(what) = self.library.difference(&self.simulator, names) {
+            return Err(format!("{call:?} with {wanted:?}: {what}"));
+        }
+        if let Some(part) = self.library.overrun() {
+            return Err(format!("{call:?}: bytes beside the {part} changed"));
+        }
+        tally.add("call", call.name());
+        let item = format!("{} {}", call.name(), wanted.refusal());
+        tally.add("refusal (0: none)", item);
+        Ok(wanted)
+    }
+
+    /// The same where the outcome is known beforehand, and a refusal has to
+    /// leave every byte as it was.
+    pub fn expect(
+        &mut self,
+        call: Call,
+        refusal: u32,
+        tally: &mut Tally,
+    ) -> Result<Outcome, Difference> {
+        let before = self.library.clone();
+        let outcome = self.call(call, tally)?;
+        if outcome.refusal() != refusal {
+            return Err(format!(
+                "{call:?}: {outcome:?} instead of refusal {refusal}"
+            ));
+        }
+        if refusal != 0 {
+            let names = ["before it", "after it"];
+            if let Some(what) = before.difference(&self.library, names) {
+                return Err(format!("{call:?} was refused, yet {what}"));
+            }
+        }
+        Ok(outcome)
+    }
+}
+
+/// Counts of the whole test.
+#[derive(Default)]
+pub struct Counts {
+    /// What single steps cover.
+    pub steps: Observer,
+    /// What calls cover.
+    pub calls: Tally,
+}

@@ -1,0 +1,137 @@
+//! What the test must have covered beside the steps of the long set.
+
+use crate::isolation::PARTS;
+use eco32_reference::vectors::tally::Required;
+
+#[derive(Default)]
+struct List(Vec<Required>);
+
+impl List {
+    fn add(&mut self, heading: &'static str, least: u64, item: impl Into<String>) {
+        self.0.push(Required {
+            heading,
+            item: item.into(),
+            least,
+        });
+    }
+
+    fn all(&mut self, heading: &'static str, least: u64, items: &[&str]) {
+        for &item in items {
+            self.add(heading, least, item);
+        }
+    }
+}
+
+pub fn required() -> Vec<Required> {
+    let mut list = List::default();
+    calls(&mut list);
+    runs(&mut list);
+    records(&mut list);
+    views(&mut list);
+    isolation(&mut list);
+    list.0
+}
+
+/// Each call with each refusal that it can give.
+fn calls(list: &mut List) {
+    let all = [
+        ("reset", &[0, 4][..]),
+        ("read_record", &[0, 4, 5, 6]),
+        ("write_record", &[0, 4, 5, 6]),
+        ("run", &[0, 1, 2, 3, 4, 5, 6, 7]),
+        ("run_to_exception", &[0, 1, 2, 3, 4, 5, 6, 7]),
+        ("page_view", &[0, 1, 4, 5, 6, 8]),
+    ];
+    for (name, _) in all {
+        list.add("call", 1_000, name);
+    }
+    for (name, refusals) in all {
+        for refusal in refusals {
+            list.add("refusal (0: none)", 50, format!("{name} {refusal}"));
+        }
+    }
+    for n in 0..6 {
+        let item = format!("{n} at once");
+        list.add("causes of refusals 1 to 7", 10, item);
+    }
+}
+
+fn runs(list: &mut List) {
+    for kind in ["plain", "to exception"] {
+        for length in [
+            "0 steps",
+            "1 step",
+            "2 to 12 steps",
+            "more steps",
+            "too many steps",
+        ] {
+            list.add("run", 100, format!("{kind}, {length}"));
+        }
+    }
+    for name in ["run", "run_to_exception"] {
+        for steps in [0, 1, 2, 999_999, 1_000_000] {
+            list.add("steps of one run", 1, format!("{name} of {steps} steps"));
+        }
+    }
+    list.all("largest memory", 1, &["used", "passed by one frame"]);
+}
+
+fn records(list: &mut List) {
+    let bits = [
+        ("register 0", 32),
+        ("PSW", 4),
+        ("TLB Index", 26),
+        ("Entry High", 12),
+        ("Entry Low", 10),
+        ("TLB high", 32 * 12),
+        ("TLB low", 32 * 10),
+    ];
+    for (name, count) in bits {
+        list.add("never-kept bits", count, name);
+    }
+    for kind in ["01", "02", "03", "04", "05"] {
+        list.add("kind byte", 256, kind);
+    }
+}
+
+fn views(list: &mut List) {
+    list.all(
+        "page view",
+        100,
+        &[
+            "mapped RAM",
+            "mapped ROM",
+            "mapped belt",
+            "mapped nothing",
+            "direct RAM",
+            "direct ROM",
+            "direct belt",
+            "direct nothing",
+            "miss",
+            "invalid",
+            "above FFFFF",
+        ],
+    );
+}
+
+fn isolation(list: &mut List) {
+    list.all(
+        "isolation",
+        100,
+        &[
+            "pairs",
+            "runs that end in User Mode",
+            "runs of the leaving step alone",
+            "runs that end with the leaving step",
+            "runs of 0 steps",
+            "runs refused",
+            "runs past the leaving step",
+        ],
+    );
+    for part in PARTS {
+        list.add("isolation", 100, format!("differ in {part:?}"));
+    }
+    for eid in 0..26 {
+        list.add("User Mode left by", 4, format!("EID {eid}"));
+    }
+}

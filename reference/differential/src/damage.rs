@@ -1,0 +1,191 @@
+//! Damaged machines, records, lengths and counts, several at once.
+
+use crate::bench::{Bench, Counts, Difference};
+use crate::runs::{memory, too_many};
+use crate::world::{Call, Lent, Run, World};
+use eco32_reference::record::KIND_BYTES;
+use eco32_reference::vectors::machines;
+use eco32_reference::vectors::numbers::Numbers;
+use eco32_reference::{MAX_STEPS, RECORD_LENGTH};
+
+/// Offset of the replacement index in the record.
+pub const REPLACEMENT_AT: usize = 413;
+
+/// A word of the record with the bits that are never kept (document 01,
+/// "Closed by us").
+#[derive(Clone, Copy)]
+pub struct NeverKept {
+    pub name: &'static str,
+    pub at: usize,
+    pub bits: u32,
+}
+
+/// All words with such bits; register 0 has no bit at all.
+pub fn never_kept() -> Vec<NeverKept> {
+    let word = |name, at, bits| NeverKept { name, at, bits };
+    let mut words = vec![
+        word("register 0", 1, 0xFFFF_FFFF),
+        word("PSW", 135, 0xF000_0000),
+        word("TLB Index", 139, 0x7FFF_FFE0),
+        word("Entry High", 143, 0x0000_0FFF),
+        word("Entry Low", 147, 0x0000_0FFC),
+    ];
+    for n in 0..32 {
+        words.push(word("TLB high", 156 + 8 * n, 0x0000_0FFF));
+        words.push(word("TLB low", 160 + 8 * n, 0x0000_0FFC));
+    }
+    words
+}
+
+/// Sets one bit of a record's word, counted from the lowest.
+pub fn set_bit(record: &mut [u8], at: usize, bit: u32) {
+    record[at + 3 - bit as usize / 8] |= 1 << (bit % 8);
+}
+
+/// Breaks the rule of refusal 6 in one place.
+fn unfit(record: &mut [u8], numbers: &mut Numbers) {
+    if numbers.percent(20) {
+        record[REPLACEMENT_AT] = numbers.pick(&[0, 1, 2, 3, 32, 33, 64, 255]);
+        return;
+    }
+    let word = numbers.pick(&never_kept());
+    let bits: Vec<u32> = (0..32).filter(|bit| word.bits >> bit & 1 == 1).collect();
+    set_bit(record, word.at, numbers.pick(&bits));
+}
+
+/// Damages a record as bits 0, 1 and 2 of `causes` say: refusals 4, 5, 6.
+fn damage_record(record: &mut Lent, causes: u32, numbers: &mut Numbers) {
+    if causes & 4 != 0 {
+        unfit(record.bytes_mut(), numbers);
+    }
+    if causes & 2 != 0 {
+        let (at, kind) = numbers.pick(&KIND_BYTES);
+        let other = numbers.pick(&[0, 1, 2, 3, 4, 5, 6, 0x80 | kind, 255]);
+        record.bytes_mut()[at] = if other == kind { !kind } else { other };
+    }
+    if causes & 1 != 0 {
+        let length = numbers.pick(&[0, 1, 129, 413, 415, 416, 828]);
+        record.resize(length, numbers.word() as u8);
+    }
+}
+
+/// A length that is no RAM or ROM length.
+fn wrong_length(numbers: &mut Numbers) -> usize {
+    let any = numbers.below(20_000) as usize | 1;
+    numbers.pick(&[0, 1, 1024, 4095, 4097, 6144, 8191, 8193, any])
+}
+
+/// Damages a world as bits 0 to 5 of `causes` say: refusals 1 to 6.
+fn damage(world: &mut World, causes: u32, numbers: &mut Numbers) {
+    if causes & 1 != 0 {
+        world.ram.resize(wrong_length(numbers), 0x11);
+    }
+    if causes & 2 != 0 {
+        world.rom.resize(wrong_length(numbers), 0x22);
+    }
+    if causes & 4 != 0 {
+        let length = numbers.pick(&[0, 1, 1020, 1023, 1025, 1028, 4096]);
+        world.belt.resize(length, 0x33);
+    }
+    damage_record(&mut world.machine, causes >> 3, numbers);
+}
+
+/// The refusal of a call on a world with these causes; bit 6 is too many
+/// steps, bit 7 a record buffer of another length.
+fn first_refusal(call: Call, causes: u32) -> u32 {
+    let taken: &[u32] = match call {
+        Call::Reset => &[4],
+        Call::ReadRecord | Call::WriteRecord => &[4, 5, 6],
+        Call::Run(_) => &[1, 2, 3, 4, 5, 6, 7],
+        Call::PageView(_) => &[1, 4, 5, 6],
+    };
+    let record_buffer = matches!(call, Call::ReadRecord | Call::WriteRecord);
+    if record_buffer && causes & 0x80 != 0 {
+        return 4;
+    }
+    let holds = |refusal: &&u32| causes >> (*refusal - 1) & 1 == 1;
+    taken.iter().find(holds).copied().unwrap_or(0)
+}
+
+/// One case: a world with some causes, and every call on it.
+pub fn case(numbers: &mut Numbers, counts: &mut Counts) -> Result<(), Difference> {
+    let scene = machines::machine(memory(numbers), numbers);
+    let sparse = numbers.percent(60);
+    let causes = (0..8).fold(0, |causes, n| {
+        let set = numbers.percent(if sparse { 15 } else { 45 });
+        causes | u32::from(set) << n
+    });
+    let mut world = World::of(&scene);
+    damage(&mut world, causes, numbers);
+    if causes & 0x80 != 0 {
+        world
+            .record
+            .resize(numbers.pick(&[0, 413, 415, 1000]), 0x55);
+    }
+    let wanted = if causes & 0x40 != 0 {
+        too_many(numbers)
+    } else {
+        u64::from(numbers.below(8))
+    };
+    let lines = numbers.word() as u16;
+    let item = format!("{} at once", (causes & 0x7F).count_ones());
+    counts.calls.add("causes of refusals 1 to 7", item);
+    calls(
+        &world,
+        causes,
+        [false, true].map(|to_exception| Run {
+            to_exception,
+            wanted,
+            lines,
+        }),
+        counts,
+    )?;
+    reading(&world, causes, numbers, counts)
+}
+
+/// Runs, writing, a view in the direct-mapped space, and reset, each on the
+/// world as it is.
+fn calls(
+    world: &World,
+    causes: u32,
+    runs: [Run; 2],
+    counts: &mut Counts,
+) -> Result<(), Difference> {
+    let rest = [Call::WriteRecord, Call::PageView(0xC0000), Call::Reset];
+    for call in runs.map(Call::Run).into_iter().chain(rest) {
+        let mut bench = Bench::new(world.clone());
+        bench.expect(call, first_refusal(call, causes), &mut counts.calls)?;
+    }
+    Ok(())
+}
+
+/// The record with the machine's damages, read to a buffer of its own length.
+fn reading(
+    world: &World,
+    causes: u32,
+    numbers: &mut Numbers,
+    counts: &mut Counts,
+) -> Result<(), Difference> {
+    let mut world = world.clone();
+    let length = world.record.bytes().len();
+    world.record = world.machine.clone();
+    world.machine = Lent::of(&vec![numbers.word() as u8; length]);
+    let mut bench = Bench::new(world);
+    let call = Call::ReadRecord;
+    bench.expect(call, first_refusal(call, causes), &mut counts.calls)?;
+    // What was read is a machine: it can be written back and run.
+    if bench.library.machine.bytes().len() == RECORD_LENGTH {
+        bench.call(Call::WriteRecord, &mut counts.calls)?;
+        let lines = numbers.word() as u16;
+        for wanted in [0, 3, MAX_STEPS + 1] {
+            let to_exception = numbers.percent(50);
+            let run = Run {
+                to_exception,
+                wanted,
+                lines,
+            };
+            bench.call(Call::Run(run), &mut counts.calls)?;
+        }
+    }
+    Ok(())
+}

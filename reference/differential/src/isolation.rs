@@ -1,0 +1,208 @@
+//! Pairs of machines in User Mode that differ only in frames which no valid
+//! user page reaches, given one list of runs.
+
+use crate::bench::{Bench, Counts, Difference};
+use crate::frames::{frames, Frame, Part, Reached};
+use crate::runs::{agree, list, memory, stream, walk, wanted_steps};
+use crate::world::{Call, Outcome, Run, World};
+use eco32_reference::vectors::machines;
+use eco32_reference::vectors::numbers::Numbers;
+use eco32_reference::vectors::scene::Scene;
+use eco32_reference::{MAX_STEPS, NO_EXCEPTION};
+
+/// Offsets of the special registers and of the TLB with the replacement index
+/// in the record.
+const SPECIALS: std::ops::Range<usize> = 135..155;
+const TLB: std::ops::Range<usize> = 156..414;
+
+/// The two machines, with their worlds at the start.
+struct Pair {
+    first: Bench,
+    second: World,
+    starts: [World; 2],
+    reached: Reached,
+    frames: Vec<Frame>,
+}
+
+impl Pair {
+    fn new(scene: &Scene, numbers: &mut Numbers, counts: &mut Counts) -> Pair {
+        let world = World::of(scene);
+        let reached = Reached::of(&scene.cpu);
+        let frames = frames(&world);
+        let mut second = world.clone();
+        for frame in &frames {
+            if reached.readable.contains(&frame.number) || numbers.percent(10) {
+                continue;
+            }
+            change(&mut second, frame, numbers);
+            let item = format!("differ in {:?}", frame.part);
+            counts.calls.add("isolation", item);
+        }
+        Pair {
+            first: Bench::new(world.clone()),
+            starts: [world, second.clone()],
+            second,
+            reached,
+            frames,
+        }
+    }
+
+    /// One run of both; their answers.
+    fn run(&mut self, run: Run, counts: &mut Counts) -> Result<[Outcome; 2], Difference> {
+        let call = Call::Run(run);
+        let first = self.first.call(call, &mut counts.calls)?;
+        Ok([first, call.library(&mut self.second)])
+    }
+
+    /// The claim, where no step behind the leaving one was made.
+    fn holds(&self, answers: [Outcome; 2], user: bool) -> Result<(), Difference> {
+        let worlds = [&self.first.library, &self.second];
+        let [first, second] = worlds.map(|world| world.machine.bytes());
+        if answers[0] != answers[1] {
+            return Err(format!("the answers differ: {answers:?}"));
+        }
+        if first != second {
+            return Err("the records of the two differ".to_string());
+        }
+        let start = self.starts[0].machine.bytes();
+        if first[TLB] != start[TLB] {
+            return Err("the TLB or the replacement index changed".to_string());
+        }
+        if user && first[SPECIALS] != start[SPECIALS] {
+            return Err("a special register changed in User Mode".to_string());
+        }
+        self.frames_hold(worlds)
+    }
+
+    fn frames_hold(&self, worlds: [&World; 2]) -> Result<(), Difference> {
+        for frame in &self.frames {
+            let number = frame.number;
+            let bytes = worlds.map(|world| &frame.part.bytes(world)[frame.range.clone()]);
+            if self.reached.readable.contains(&number) && bytes[0] != bytes[1] {
+                return Err(format!("the reached frame {number:05X} differs"));
+            }
+            if self.reached.writable.contains(&number) {
+                continue;
+            }
+            for (start, now) in self.starts.iter().zip(bytes) {
+                if frame.part.bytes(start)[frame.range.clone()] != *now {
+                    return Err(format!("frame {number:05X} is not writable and changed"));
+                }
+            }
+        }
+        Ok(())
+    }
+}
+
+/// Gives a frame other bytes: all of them, or a few.
+fn change(world: &mut World, frame: &Frame, numbers: &mut Numbers) {
+    let share = numbers.pick(&[1, 10, 100]);
+    let bytes = &mut frame.part.bytes_mut(world)[frame.range.clone()];
+    for byte in bytes.iter_mut() {
+        if numbers.percent(share) {
+            *byte ^= numbers.word() as u8;
+        }
+    }
+}
+
+/// A machine in User Mode.
+fn user_machine(numbers: &mut Numbers) -> Scene {
+    loop {
+        let scene = machines::machine(memory(numbers), numbers);
+        if scene.cpu.user_mode() {
+            return scene;
+        }
+    }
+}
+
+/// The step that leaves User Mode, and whether any step came after it.
+#[derive(Default)]
+struct Leaving {
+    eid: Option<u32>,
+    passed: bool,
+}
+
+/// Makes the steps of a run one by one. With `cut` it stops at the step that
+/// leaves User Mode.
+fn follow(
+    scene: &mut Scene,
+    run: &Run,
+    cut: bool,
+    leaving: &mut Leaving,
+    counts: &mut Counts,
+) -> (u64, u32) {
+    let one = Run {
+        to_exception: true,
+        wanted: 1,
+        lines: run.lines,
+    };
+    let mut walked = (0, NO_EXCEPTION);
+    while run.wanted <= MAX_STEPS && walked.0 < run.wanted {
+        leaving.passed = leaving.eid.is_some();
+        let (_, eid) = walk(scene, &one, counts);
+        walked.0 += 1;
+        let leaves = leaving.eid.is_none() && !scene.cpu.user_mode();
+        if leaves {
+            leaving.eid = Some(eid);
+        }
+        if run.to_exception && eid != NO_EXCEPTION {
+            walked.1 = eid;
+            break;
+        }
+        if leaves && cut {
+            break;
+        }
+    }
+    walked
+}
+
+pub fn case(numbers: &mut Numbers, counts: &mut Counts) -> Result<(), Difference> {
+    let list = list(numbers);
+    let mut scene = stream(user_machine(numbers), &list, numbers);
+    let mut pair = Pair::new(&scene, numbers, counts);
+    counts.steps.begin(wanted_steps(&list));
+    counts.calls.add("isolation", "pairs");
+    let mut leaving = Leaving::default();
+    for (n, mut run) in list.into_iter().enumerate() {
+        let cut = !run.to_exception && run.wanted <= MAX_STEPS && numbers.percent(70);
+        let walked = follow(&mut scene, &run, cut, &mut leaving, counts);
+        if cut {
+            run.wanted = walked.0;
+        }
+        pair.run(run, counts)
+            .and_then(|answers| {
+                agree(answers[0], walked, &scene, &pair.first)?;
+                count(answers[0], &leaving, counts);
+                if leaving.passed {
+                    return Ok(());
+                }
+                pair.holds(answers, leaving.eid.is_none())
+            })
+            .map_err(|what| format!("pair, run {n}: {what}"))?;
+        if leaving.passed {
+            break;
+        }
+    }
+    if let Some(eid) = leaving.eid {
+        counts.calls.add("User Mode left by", format!("EID {eid}"));
+    }
+    Ok(())
+}
+
+fn count(answer: Outcome, leaving: &Leaving, counts: &mut Counts) {
+    let Outcome::Answer(answer) = answer else {
+        return;
+    };
+    let item = match (answer.refusal, answer.steps, leaving.eid) {
+        (1.., _, _) => "runs refused",
+        (0, 0, _) => "runs of 0 steps",
+        (_, _, None) => "runs that end in User Mode",
+        (_, _, Some(_)) if leaving.passed => "runs past the leaving step",
+        (_, 1, Some(_)) => "runs of the leaving step alone",
+        (_, _, Some(_)) => "runs that end with the leaving step",
+    };
+    counts.calls.add("isolation", item);
+}
+
+/// Names of the parts for the required items.
+pub const PARTS: [Part; 3] = [Part::Ram, Part::Rom, Part::Belt];

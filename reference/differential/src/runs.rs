@@ -1,0 +1,151 @@
+//! Random machines with random lists of runs.
+
+use crate::bench::{Bench, Counts, Difference};
+use crate::world::{Call, Outcome, Run, World};
+use eco32_reference::vectors::machines;
+use eco32_reference::vectors::numbers::Numbers;
+use eco32_reference::vectors::scene::{Region, Scene};
+use eco32_reference::vectors::stream::{random_lines, Stream};
+use eco32_reference::{write_record, MAX_STEPS, NO_EXCEPTION, RECORD_LENGTH};
+
+/// A scene with memory of random lengths, some words of it random.
+pub fn memory(numbers: &mut Numbers) -> Scene {
+    let ram = 4096 * numbers.pick(&[1, 2, 2, 2, 3, 4, 6, 8]);
+    let rom = 4096 * numbers.pick(&[1, 1, 1, 2, 3]);
+    let mut scene = Scene::sized(ram, rom);
+    for _ in 0..numbers.below(64) {
+        let region = numbers.pick(&Region::ALL);
+        let at = numbers.below(scene.length(region)) & !3;
+        scene.put(region.base() + at, numbers.word());
+    }
+    scene
+}
+
+/// Steps wanted by one run of a list.
+fn wanted(numbers: &mut Numbers, style: u32) -> u64 {
+    match (numbers.below(40), style) {
+        (0 | 1, _) => 0,
+        (2, _) => too_many(numbers),
+        (_, 0) => 1,
+        (_, 1) => u64::from(1 + numbers.below(12)),
+        _ => u64::from(20 + numbers.below(380)),
+    }
+}
+
+/// More steps than a run may want.
+pub fn too_many(numbers: &mut Numbers) -> u64 {
+    let few = u64::from(numbers.below(100));
+    let large = numbers.pick(&[1 << 32, 1 << 33, 1 << 63, u64::MAX - 100]);
+    numbers.pick(&[MAX_STEPS + 1, MAX_STEPS + 1 + few, large + few])
+}
+
+/// A list of runs: single steps, short runs, or few long ones.
+pub fn list(numbers: &mut Numbers) -> Vec<Run> {
+    let style = numbers.pick(&[0, 0, 0, 1, 1, 1, 1, 2]);
+    let count = match style {
+        0 => 1 + numbers.below(40),
+        1 => 1 + numbers.below(8),
+        _ => 1 + numbers.below(2),
+    };
+    let busy = numbers.pick(&[0, 10, 40]);
+    (0..count)
+        .map(|_| Run {
+            to_exception: numbers.percent(60),
+            wanted: wanted(numbers, style),
+            lines: if numbers.percent(busy) {
+                random_lines(numbers)
+            } else {
+                0
+            },
+        })
+        .collect()
+}
+
+/// Steps that the accepted runs of a list want together.
+pub fn wanted_steps(list: &[Run]) -> usize {
+    let accepted = list.iter().filter(|run| run.wanted <= MAX_STEPS);
+    accepted.map(|run| run.wanted as usize).sum()
+}
+
+/// Chooses the instructions of a machine along a list of runs.
+pub fn stream(start: Scene, list: &[Run], numbers: &mut Numbers) -> Scene {
+    let mut stream = Stream::new(start);
+    for run in list.iter().filter(|run| run.wanted <= MAX_STEPS) {
+        for _ in 0..run.wanted {
+            let eid = stream.step(numbers, run.lines);
+            if run.to_exception && eid != NO_EXCEPTION {
+                break;
+            }
+        }
+    }
+    stream.start
+}
+
+/// The steps of one run, made one by one to count what they cover. Answers
+/// the number of steps and the last EID.
+pub fn walk(scene: &mut Scene, run: &Run, counts: &mut Counts) -> (u64, u32) {
+    let mut steps = 0;
+    while run.wanted <= MAX_STEPS && steps < run.wanted {
+        steps += 1;
+        let eid = counts.steps.step(scene, run.lines);
+        if run.to_exception && eid != NO_EXCEPTION {
+            return (steps, eid);
+        }
+    }
+    (steps, NO_EXCEPTION)
+}
+
+/// Holds the answer and the state of a run to its single steps.
+pub fn agree(
+    outcome: Outcome,
+    walked: (u64, u32),
+    scene: &Scene,
+    bench: &Bench,
+) -> Result<(), Difference> {
+    let Outcome::Answer(answer) = outcome else {
+        return Err("no answer of a run".to_string());
+    };
+    if (u64::from(answer.steps), answer.eid) != walked {
+        return Err(format!("{answer:?}, but single steps give {walked:?}"));
+    }
+    let mut record = [0; RECORD_LENGTH];
+    write_record(&scene.cpu, &mut record);
+    if bench.library.machine.bytes() != record || bench.library.ram.bytes() != scene.ram {
+        return Err("a run differs from its single steps".to_string());
+    }
+    Ok(())
+}
+
+/// One case: a machine and its list.
+pub fn case(numbers: &mut Numbers, counts: &mut Counts) -> Result<(), Difference> {
+    let list = list(numbers);
+    let scene = machines::machine(memory(numbers), numbers);
+    let mut scene = stream(scene, &list, numbers);
+    let mut bench = Bench::new(World::of(&scene));
+    counts.steps.begin(wanted_steps(&list));
+    for (n, run) in list.iter().enumerate() {
+        count_run(run, counts);
+        let walked = walk(&mut scene, run, counts);
+        bench
+            .call(Call::Run(*run), &mut counts.calls)
+            .and_then(|outcome| agree(outcome, walked, &scene, &bench))
+            .map_err(|what| format!("run {n}: {what}"))?;
+    }
+    Ok(())
+}
+
+fn count_run(run: &Run, counts: &mut Counts) {
+    let kind = if run.to_exception {
+        "to exception"
+    } else {
+        "plain"
+    };
+    let length = match run.wanted {
+        0 => "0 steps",
+        1 => "1 step",
+        2..=12 => "2 to 12 steps",
+        13..=MAX_STEPS => "more steps",
+        _ => "too many steps",
+    };
+    counts.calls.add("run", format!("{kind}, {length}"));
+}

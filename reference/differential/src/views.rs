@@ -1,0 +1,79 @@
+//! Page views of random machines.
+
+use crate::bench::{Bench, Counts, Difference};
+use crate::runs::memory;
+use crate::world::{Call, Outcome, World};
+use eco32_reference::vectors::machines;
+use eco32_reference::vectors::numbers::Numbers;
+use eco32_reference::vectors::scene::Scene;
+
+/// Pages to look at: those of the TLB and their neighbours, the first and last
+/// of each space and of RAM, and numbers that no page has.
+fn pages(scene: &Scene, numbers: &mut Numbers) -> Vec<u64> {
+    let mut pages = Vec::new();
+    for entry in &scene.cpu.tlb {
+        let page = u64::from(entry.high >> 12);
+        if page != 0xC0000 {
+            pages.extend([page, page ^ 1]);
+        }
+    }
+    let end = scene.ram.len() as u64 / 4096;
+    pages.extend([
+        0, 0x7FFFF, 0x80000, 0xBFFFF, 0xC0000, 0xC0001, 0xE0000, 0xF0500,
+    ]);
+    pages.extend([0xC0000 + end - 1, 0xC0000 + end, 0xFFFFE, 0xFFFFF, 0x100000]);
+    for _ in 0..6 {
+        let page = numbers.pick(&pages) & 0xFFFFF;
+        let above = numbers.pick(&[1 << 20, 1 << 32, 1 << 52, 1 << 63]);
+        pages.push(page | above);
+        pages.push(u64::from(numbers.word() >> 12));
+    }
+    pages.push(numbers.long());
+    pages.push(u64::MAX);
+    pages
+}
+
+/// What kind of page it is, for the counts.
+fn kind(scene: &Scene, page: u64) -> String {
+    if page > 0xFFFFF {
+        return "above FFFFF".to_string();
+    }
+    let address = (page as u32) << 12;
+    let (space, low) = if address >= 0xC000_0000 {
+        ("direct", Some((address - 0xC000_0000) | 1))
+    } else {
+        let entry = scene.cpu.find_entry(address);
+        ("mapped", entry.map(|index| scene.cpu.tlb[index].low))
+    };
+    match low {
+        None => "miss".to_string(),
+        Some(low) if low & 1 == 0 => "invalid".to_string(),
+        Some(low) => match scene.locate(low & !0xFFF) {
+            Some((region, _)) => format!("{space} {}", region.name()),
+            None => format!("{space} nothing"),
+        },
+    }
+}
+
+pub fn case(numbers: &mut Numbers, counts: &mut Counts) -> Result<(), Difference> {
+    let scene = machines::machine(memory(numbers), numbers);
+    let mut bench = Bench::new(World::of(&scene));
+    for page in pages(&scene, numbers) {
+        let kind = kind(&scene, page);
+        let in_ram = kind.ends_with("RAM");
+        let refusal = if in_ram { 0 } else { 8 };
+        let outcome = bench.expect(Call::PageView(page), refusal, &mut counts.calls)?;
+        let Outcome::View(view) = outcome else {
+            return Err("no view".to_string());
+        };
+        let length = if in_ram { 4096 } else { 0 };
+        if view.length != length || view.offset % 4096 != 0 {
+            return Err(format!("page {page:X}: {view:?}"));
+        }
+        counts.calls.add("page view", kind);
+    }
+    bench.call(Call::WriteRecord, &mut counts.calls)?;
+    bench.call(Call::Reset, &mut counts.calls)?;
+    bench.call(Call::ReadRecord, &mut counts.calls)?;
+    Ok(())
+}

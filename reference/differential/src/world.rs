@@ -1,0 +1,223 @@
+//! The bytes that a host lends, and the calls on them.
+
+use crate::ffi;
+use eco32_reference::host::{self, View};
+use eco32_reference::vectors::scene::Scene;
+use eco32_reference::{write_record, Answer, RECORD_LENGTH};
+
+/// Bytes on both sides of a lent slice that no call may touch.
+const GUARD: usize = 64;
+const GUARD_BYTE: u8 = 0xA5;
+
+/// A lent slice between its guards.
+#[derive(Clone, PartialEq)]
+pub struct Lent(Vec<u8>);
+
+impl Lent {
+    pub fn zeros(length: usize) -> Lent {
+        // The large middle stays untouched zero memory.
+        let mut all = vec![0; length + 2 * GUARD];
+        all[..GUARD].fill(GUARD_BYTE);
+        all[GUARD + length..].fill(GUARD_BYTE);
+        Lent(all)
+    }
+
+    pub fn of(bytes: &[u8]) -> Lent {
+        let mut lent = Lent::zeros(bytes.len());
+        lent.bytes_mut().copy_from_slice(bytes);
+        lent
+    }
+
+    pub fn bytes(&self) -> &[u8] {
+        &self.0[GUARD..self.0.len() - GUARD]
+    }
+
+    pub fn bytes_mut(&mut self) -> &mut [u8] {
+        let end = self.0.len() - GUARD;
+        &mut self.0[GUARD..end]
+    }
+
+    /// Changes the length; new bytes are `fill`.
+    pub fn resize(&mut self, length: usize, fill: u8) {
+        let mut bytes = self.bytes().to_vec();
+        bytes.resize(length, fill);
+        *self = Lent::of(&bytes);
+    }
+
+    fn guards_whole(&self) -> bool {
+        let end = self.0.len() - GUARD;
+        let sides = self.0[..GUARD].iter().chain(&self.0[end..]);
+        sides.into_iter().all(|&byte| byte == GUARD_BYTE)
+    }
+
+    /// First offset at which two slices of one length differ.
+    fn differs(&self, other: &Lent) -> Option<usize> {
+        if self.0 == other.0 {
+            return None;
+        }
+        let mut pairs = self.bytes().iter().zip(other.bytes());
+        pairs.position(|(a, b)| a != b)
+    }
+}
+
+/// Everything that calls can be handed.
+#[derive(Clone)]
+pub struct World {
+    pub record: Lent,
+    pub machine: Lent,
+    pub ram: Lent,
+    pub rom: Lent,
+    pub belt: Lent,
+}
+
+impl World {
+    /// The machine as a record, and its memory; the record buffer holds other
+    /// bytes.
+    pub fn of(scene: &Scene) -> World {
+        let mut machine = vec![0; RECORD_LENGTH];
+        let refusal = write_record(&scene.cpu, &mut machine);
+        assert_eq!(refusal, 0, "scenes are fit");
+        World {
+            record: Lent::of(&[0x77; RECORD_LENGTH]),
+            machine: Lent::of(&machine),
+            ram: Lent::of(&scene.ram),
+            rom: Lent::of(&scene.rom),
+            belt: Lent::of(&scene.belt),
+        }
+    }
+
+    fn parts(&self) -> [(&'static str, &Lent); 5] {
+        [
+            ("record", &self.record),
+            ("machine", &self.machine),
+            ("RAM", &self.ram),
+            ("ROM", &self.rom),
+            ("belt", &self.belt),
+        ]
+    }
+
+    /// Says where two worlds differ, if they do.
+    pub fn difference(&self, other: &World, names: [&str; 2]) -> Option<String> {
+        for ((part, a), (_, b)) in self.parts().into_iter().zip(other.parts()) {
+            if let Some(at) = a.differs(b) {
+                let end = (at + 4).min(a.bytes().len());
+                let (ours, theirs) = (&a.bytes()[at..end], &b.bytes()[at..end]);
+                let [first, second] = names;
+                return Some(format!(
+                    "{part} from byte {at} on: {first} {ours:02X?}, {second} {theirs:02X?}"
+                ));
+            }
+        }
+        None
+    }
+
+    /// Names a part with a damaged guard, if there is one.
+    pub fn overrun(&self) -> Option<&'static str> {
+        let mut parts = self.parts().into_iter();
+        parts
+            .find(|(_, lent)| !lent.guards_whole())
+            .map(|(part, _)| part)
+    }
+}
+
+/// One call; what it takes beside the world.
+#[derive(Clone, Copy, Debug, PartialEq, Eq)]
+pub enum Call {
+    Reset,
+    ReadRecord,
+    WriteRecord,
+    Run(Run),
+    PageView(u64),
+}
+
+#[derive(Clone, Copy, Debug, PartialEq, Eq)]
+pub struct Run {
+    pub to_exception: bool,
+    pub wanted: u64,
+    pub lines: u16,
+}
+
+/// What a call answers.
+#[derive(Clone, Copy, Debug, PartialEq, Eq)]
+pub enum Outcome {
+    Number(u32),
+    Answer(Answer),
+    View(View),
+}
+
+impl Outcome {
+    pub fn refusal(self) -> u32 {
+        match self {
+            Outcome::Number(refusal) => refusal,
+            Outcome::Answer(answer) => answer.refusal,
+            Outcome::View(view) => view.refusal,
+        }
+    }
+}
+
+impl Call {
+    pub fn name(&self) -> &'static str {
+        match self {
+            Call::Reset => "reset",
+            Call::ReadRecord => "read_record",
+            Call::WriteRecord => "write_record",
+            Call::Run(run) if run.to_exception => "run_to_exception",
+            Call::Run(_) => "run",
+            Call::PageView(_) => "page_view",
+        }
+    }
+
+    /// The call by the library.
+    pub fn library(&self, world: &mut World) -> Outcome {
+        let World {
+            record,
+            machine,
+            ram,
+            rom,
+            belt,
+        } = world;
+        let machine = machine.bytes_mut();
+        match *self {
+            Call::Reset => Outcome::Number(ffi::reset(machine)),
+            Call::ReadRecord => Outcome::Number(ffi::read_record(record.bytes(), machine)),
+            Call::WriteRecord => Outcome::Number(ffi::write_record(machine, record.bytes_mut())),
+            Call::Run(run) => {
+                let call = if run.to_exception {
+                    ffi::run_to_exception
+                } else {
+                    ffi::run
+                };
+                let (ram, rom, belt) = (ram.bytes_mut(), rom.bytes(), belt.bytes_mut());
+                Outcome::Answer(call(machine, ram, rom, belt, run.wanted, run.lines))
+            }
+            Call::PageView(page) => Outcome::View(ffi::page_view(ram.bytes(), machine, page)),
+        }
+    }
+
+    /// The call by the simulator.
+    pub fn simulator(&self, world: &mut World) -> Outcome {
+        let World {
+            record,
+            machine,
+            ram,
+            rom,
+            belt,
+        } = world;
+        let machine = machine.bytes_mut();
+        match *self {
+            Call::Reset => Outcome::Number(host::reset(machine)),
+            Call::ReadRecord => Outcome::Number(host::read_record(record.bytes(), machine)),
+            Call::WriteRecord => Outcome::Number(host::write_record(machine, record.bytes_mut())),
+            Call::Run(run) => {
+                let call = if run.to_exception {
+                    host::run_to_exception
+                } else {
+                    host::run
+                };
+                let (ram, rom, belt) = (ram.bytes_mut(), rom.bytes(), belt.bytes_mut());
+                Outcome::Answer(call(machine, ram, rom, belt, run.wanted, run.lines))
+            }
+            Call::PageView(page) => Outcome::View(host::page_view(ram.bytes(), machine, page)),
+        }
+    }
+}
