@@ -1,0 +1,188 @@
+/*
+ * eco32.h - a model of the ECO32 processor, to be linked from libeco32.a.
+ *
+ * One machine is one ECO32 processor with RAM, ROM and 256 belt registers.
+ * The library keeps nothing between calls: the processor travels as a machine
+ * record of 414 bytes, and the memory is yours.
+ *
+ * Memory. You own every buffer. A call uses the buffers it is handed until it
+ * returns, and keeps no pointer to them. It reads and writes no byte outside
+ * the lengths you give. The buffers of one call must not overlap, and nobody
+ * else may write them during the call. No pointer may be null, not even with
+ * the length 0. Different threads may make calls at the same time on different
+ * buffers.
+ *
+ * Refusals. Every call answers a refusal number: ECO32_ACCEPTED (0), or the
+ * number of the first cause below, in their order, among those that concern
+ * what the call takes. A refused call leaves every byte of every buffer as it
+ * was, the machine's too. A program that faults is no cause for a refusal: the
+ * fault is an event of the modelled processor.
+ *
+ * Words in records, ROM and RAM images and belt registers are big-endian.
+ */
+#ifndef ECO32_H
+#define ECO32_H
+
+#include <stddef.h>
+#include <stdint.h>
+
+#ifdef __cplusplus
+extern "C" {
+#endif
+
+/* Length of a machine record. Its items, in this order, each behind its kind
+ * byte: 01, registers 0 to 31 (128 bytes); 02, PC (4); 03, PSW, TLB Index,
+ * Entry High, Entry Low, Bad Address (20); 04, 32 TLB entries of high word and
+ * low word (256); 05, the replacement index (1). */
+#define ECO32_RECORD_LENGTH 414
+
+/* RAM and ROM lengths are multiples of 4,096 within these bounds. RAM stands at
+ * physical 00000000, ROM at 20000000. */
+#define ECO32_FRAME_LENGTH 4096
+#define ECO32_RAM_LEAST 4096
+#define ECO32_RAM_MOST 536870912
+#define ECO32_ROM_LEAST 4096
+#define ECO32_ROM_MOST 268435456
+
+/* The belt registers: 256 words at physical 30500000. */
+#define ECO32_BELT_LENGTH 1024
+
+/* Most steps that one run may be asked for. */
+#define ECO32_MOST_STEPS 1000000
+
+/* Answered in place of an exception's EID (0 to 25) where there was none. */
+#define ECO32_NO_EXCEPTION 32
+
+/* Refusal numbers, in the order in which they are tested. */
+#define ECO32_ACCEPTED 0              /* not refused */
+#define ECO32_REFUSED_RAM_LENGTH 1    /* RAM length: no multiple of 4,096 in 4,096 .. 536,870,912 */
+#define ECO32_REFUSED_ROM_LENGTH 2    /* ROM length: no multiple of 4,096 in 4,096 .. 268,435,456 */
+#define ECO32_REFUSED_BELT_LENGTH 3   /* belt length not 1,024 */
+#define ECO32_REFUSED_RECORD_LENGTH 4 /* machine, record or buffer for one not 414 bytes */
+#define ECO32_REFUSED_KIND_BYTE 5     /* a kind byte of the record is not in its place */
+#define ECO32_REFUSED_UNFIT_MACHINE 6 /* register 0 not 0, replacement index outside 4 .. 31, or a
+                                         bit set that the processor never keeps */
+#define ECO32_REFUSED_STEPS 7         /* more than 1,000,000 steps wanted */
+#define ECO32_REFUSED_PAGE 8          /* page view: no RAM frame behind that page */
+
+/* Answer of a run. */
+struct eco32_answer {
+    uint32_t refusal; /* 0, or the refusal number; then steps is 0 and eid 32 */
+    uint32_t steps;   /* steps made */
+    uint32_t eid;     /* run to exception: EID of the exception that ended it, or 32; plain run: 32 */
+};
+
+/* Answer of a page view. */
+struct eco32_view {
+    uint32_t refusal; /* 0, or the refusal number; then offset and length are 0 */
+    uint64_t offset;  /* where the frame begins in the RAM you lent */
+    uint64_t length;  /* 4,096 */
+};
+
+#if defined(__cplusplus) && __cplusplus >= 201103L
+#define ECO32_ASSERT(holds, says) static_assert(holds, says)
+#elif !defined(__cplusplus) && defined(__STDC_VERSION__) && __STDC_VERSION__ >= 201112L
+#define ECO32_ASSERT(holds, says) _Static_assert(holds, says)
+#endif
+
+#ifdef ECO32_ASSERT
+ECO32_ASSERT(sizeof(struct eco32_answer) == 12, "eco32_answer has 12 bytes");
+ECO32_ASSERT(offsetof(struct eco32_answer, refusal) == 0, "eco32_answer.refusal");
+ECO32_ASSERT(offsetof(struct eco32_answer, steps) == 4, "eco32_answer.steps");
+ECO32_ASSERT(offsetof(struct eco32_answer, eid) == 8, "eco32_answer.eid");
+ECO32_ASSERT(sizeof(struct eco32_view) == 24, "eco32_view has 24 bytes");
+ECO32_ASSERT(offsetof(struct eco32_view, refusal) == 0, "eco32_view.refusal");
+ECO32_ASSERT(offsetof(struct eco32_view, offset) == 8, "eco32_view.offset");
+ECO32_ASSERT(offsetof(struct eco32_view, length) == 16, "eco32_view.length");
+#undef ECO32_ASSERT
+#endif
+
+/*
+ * Writes the machine at reset to machine: PC E0000000, PSW and all registers
+ * 0, TLB high words C0000000 and low words 0, replacement index 4.
+ *
+ *   machine  buffer of 414 bytes; its contents do not matter
+ *
+ * Answers 0 or 4.
+ */
+uint32_t eco32_reset(uint8_t *machine, size_t machine_len);
+
+/*
+ * Reads a record, say from a file, to machine, which then holds the same 414
+ * bytes.
+ *
+ *   record   the record; never written
+ *   machine  buffer of 414 bytes; its contents do not matter
+ *
+ * Answers 0, 4 (for either length), 5 or 6.
+ */
+uint32_t eco32_read_record(const uint8_t *record, size_t record_len,
+                           uint8_t *machine, size_t machine_len);
+
+/*
+ * Writes a machine to record, which then holds the same 414 bytes.
+ *
+ *   machine  the machine; never written
+ *   record   buffer of 414 bytes; its contents do not matter
+ *
+ * Answers 0, 4 (for either length), 5 or 6.
+ */
+uint32_t eco32_write_record(const uint8_t *machine, size_t machine_len,
+                            uint8_t *record, size_t record_len);
+
+/*
+ * Plain run: makes exactly the wanted steps, through exceptions and
+ * interrupts too. A step accepts an interrupt or executes one instruction.
+ *
+ *   machine  the machine; written with the state after the run
+ *   ram      RAM; written by the program's stores
+ *   rom      ROM; never written, a program's store to it changes nothing
+ *   belt     belt registers, 1,024 bytes; written by the program's stores
+ *   wanted   steps, at most 1,000,000; 0 is accepted and changes nothing
+ *   lines    interrupt lines, bit i for channel i, held for the whole run
+ *
+ * Answers a refusal 0 to 7, the steps made, and EID 32.
+ */
+struct eco32_answer eco32_run(uint8_t *machine, size_t machine_len,
+                              uint8_t *ram, size_t ram_len,
+                              const uint8_t *rom, size_t rom_len,
+                              uint8_t *belt, size_t belt_len,
+                              uint64_t wanted, uint16_t lines);
+
+/*
+ * Run to exception: the same, but ends after the first step that accepts an
+ * exception (an interrupt, a fault or a trap). The machine then stands at the
+ * first instruction of the service routine.
+ *
+ * Answers a refusal 0 to 7, the steps made (with the one that accepted the
+ * exception), and that exception's EID, or 32 if all wanted steps were made
+ * without one.
+ */
+struct eco32_answer eco32_run_to_exception(uint8_t *machine, size_t machine_len,
+                                           uint8_t *ram, size_t ram_len,
+                                           const uint8_t *rom, size_t rom_len,
+                                           uint8_t *belt, size_t belt_len,
+                                           uint64_t wanted, uint16_t lines);
+
+/*
+ * Page view: finds the part of your RAM that a virtual page stands for. The
+ * page is looked up as a Kernel Mode load of its first byte. Nothing is
+ * written.
+ *
+ *   ram      RAM; only its length is used
+ *   machine  the machine, for its TLB
+ *   page     virtual page number, 0 to FFFFF
+ *
+ * Answers 0 with the offset in RAM and the length 4,096; or 1, 4, 5, 6 or 8
+ * with offset and length 0. Refusal 8: the page number exceeds FFFFF, that
+ * load would fault, or its physical address is not in RAM.
+ */
+struct eco32_view eco32_page_view(const uint8_t *ram, size_t ram_len,
+                                  const uint8_t *machine, size_t machine_len,
+                                  uint64_t page);
+
+#ifdef __cplusplus
+}
+#endif
+
+#endif
