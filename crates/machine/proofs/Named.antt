@@ -14,12 +14,12 @@ use Rattle.processor.specs.Interrupt.{lowest, channel}
 use Rattle.processor.specs.Translation.{translated}
 use Rattle.processor.proofs.PswLaws.{Fields, fieldsOf, pushed-fields}
 use Rattle.instructions.specs.Operands.{Surroundings}
-use Rattle.instructions.specs.Transfer.{readFrom}
+use Rattle.transfer.specs.Transfer.{readFrom}
 use Rattle.instructions.specs.declared.Action.{Action}
 use Rattle.instructions.specs.declared.Action.the-variants.{Exception}
-use Rattle.instructions.specs.declared.transfer.Read.{Read}
-use Rattle.instructions.specs.declared.transfer.Read.the-variants.{Value, Fault}
-use Rattle.instructions.proofs.Named.{Named, NamedRead, read-named, executed-named}
+use Rattle.transfer.specs.declared.Read.{Read}
+use Rattle.transfer.specs.declared.Read.the-variants.{Value, Fault}
+use Rattle.decode.proofs.Named.{Named, NamedRead, read-named, executed-named}
 use Rattle.machine.specs.State.{Machine}
 use Rattle.machine.specs.Step.{surroundingsOf, operandsOf, decoded, lookFrom, look, stepOf, stepEid}
 use Rattle.machine.proofs.StepLaws.{fault-enters, fault-named}

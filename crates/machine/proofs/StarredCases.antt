@@ -18,11 +18,11 @@ use Rattle.processor.specs.Register.{put, written, jumped, special, specialWrit
 use Rattle.processor.specs.Tlb.{findFrom, lookup, entryWritten, indexedWritten}
 use Rattle.processor.specs.Translation.{valid, writable, through, mapped, forbidden, translated}
 use Rattle.processor.specs.Interrupt.{lowest, channel}
-use Rattle.instructions.specs.Compute.{unlessZero, computations}
-use Rattle.instructions.specs.Control.{target, branch, controls}
-use Rattle.instructions.specs.Transfer.{readFrom, load, storeTo, transfers}
-use Rattle.instructions.specs.System.{privileged, traps, systems}
-use Rattle.instructions.specs.Table.{meanings, executed}
+use Rattle.compute.specs.Compute.{unlessZero, computations}
+use Rattle.control.specs.Control.{target, branch, controls}
+use Rattle.transfer.specs.Transfer.{readFrom, load, storeTo, transfers}
+use Rattle.system.specs.System.{privileged, traps, systems}
+use Rattle.decode.specs.Table.{meanings, executed}
 use Rattle.machine.specs.State.{Machine, machine}
 use Rattle.machine.specs.Step.{lookFrom, look, systemDone, storeWidth, stepOf, stepEid}
 

@@ -13,12 +13,12 @@ use Rattle.processor.specs.Register.{written, jumped, special, specialWritten}
 use Rattle.processor.specs.Tlb.{indexedWritten, randomWritten, entryRead, searched}
 use Rattle.processor.specs.Interrupt.{channel}
 use Rattle.instructions.specs.Operands.{Surroundings, surroundings, Operands, operands, fieldX, fieldY}
-use Rattle.instructions.specs.Transfer.{readFrom}
-use Rattle.instructions.specs.Table.{executed}
+use Rattle.transfer.specs.Transfer.{readFrom}
+use Rattle.decode.specs.Table.{executed}
 use Rattle.instructions.specs.declared.Action.{Action}
 use Rattle.instructions.specs.declared.Action.the-variants.{Write, Store, System, Exception}
-use Rattle.instructions.specs.declared.transfer.Read.{Read}
-use Rattle.instructions.specs.declared.transfer.Read.the-variants.{Value, Fault}
+use Rattle.transfer.specs.declared.Read.{Read}
+use Rattle.transfer.specs.declared.Read.the-variants.{Value, Fault}
 use Rattle.machine.specs.State.{Machine}
 
 -- ---- the look
