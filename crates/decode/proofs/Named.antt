@@ -12,9 +12,9 @@ use Rattle.memory.specs.declared.Loaded.the-variants as loaded
 use Rattle.memory.specs.declared.Stored.{Stored}
 use Rattle.memory.specs.declared.Stored.the-variants as stored
 use Rattle.processor.specs.Psw.{userMode}
-use Rattle.processor.specs.Translation.{translated}
-use Rattle.processor.specs.declared.translation.Translation.{Translation}
-use Rattle.processor.specs.declared.translation.Translation.the-variants.{Physical, TlbMiss, TlbWrite, TlbInvalid, IllegalAddress, PrivilegedAddress}
+use Rattle.translation.specs.Translation.{translated}
+use Rattle.translation.specs.declared.Translation.{Translation}
+use Rattle.translation.specs.declared.Translation.the-variants.{Physical, TlbMiss, TlbWrite, TlbInvalid, IllegalAddress, PrivilegedAddress}
 use Rattle.instructions.specs.Operands.{Surroundings, Operands, Simple, Meaning, simple, illegal, opcodeOf, fieldY}
 use Rattle.compute.specs.Compute.{unlessZero, computations}
 use Rattle.control.specs.Control.{branch, controls}

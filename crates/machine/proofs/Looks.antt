@@ -5,7 +5,7 @@ use Prim.Native.Nat.{ℕ, _≤_, _<_}
 use borrow.Author.Tests.{lt-ltb, le-ltb, eq-eqb, ne-eqb}
 use Rattle.memory.specs.Map.{Memory}
 use Rattle.processor.specs.declared.Processor.{Processor}
-use Rattle.processor.specs.Interrupt.{channel}
+use Rattle.interrupt.specs.Interrupt.{channel}
 use Rattle.instructions.specs.Operands.{Surroundings, operands}
 use Rattle.decode.specs.Table.{executed}
 use Rattle.transfer.specs.Transfer.{readFrom}

@@ -10,8 +10,8 @@ use borrow.Author.Tests.{lt-ltb, le-ltb, ltb-true, eqb-true}
 use mathlib.Core.List.{List}
 use Rattle.processor.specs.Psw.{identifier, interruptCurrent, enabled, pushed}
 use Rattle.processor.specs.Exception.{entered}
-use Rattle.processor.specs.Interrupt.{lowest, channel}
-use Rattle.processor.specs.Translation.{translated}
+use Rattle.interrupt.specs.Interrupt.{lowest, channel}
+use Rattle.translation.specs.Translation.{translated}
 use Rattle.processor.proofs.PswLaws.{Fields, fieldsOf, pushed-fields}
 use Rattle.instructions.specs.Operands.{Surroundings}
 use Rattle.transfer.specs.Transfer.{readFrom}

@@ -16,8 +16,8 @@ use Rattle.processor.specs.Psw.{vector, userCurrent, userPrevious, userOld, int
 use Rattle.processor.specs.Exception.{serviceBase, userMiss, serviceAddress, entered, returned}
 use Rattle.processor.specs.Register.{put, written, jumped, special, specialWritten}
 use Rattle.processor.specs.Tlb.{findFrom, lookup, entryWritten, indexedWritten}
-use Rattle.processor.specs.Translation.{valid, writable, through, mapped, forbidden, translated}
-use Rattle.processor.specs.Interrupt.{lowest, channel}
+use Rattle.translation.specs.Translation.{valid, writable, through, mapped, forbidden, translated}
+use Rattle.interrupt.specs.Interrupt.{lowest, channel}
 use Rattle.compute.specs.Compute.{unlessZero, computations}
 use Rattle.control.specs.Control.{target, branch, controls}
 use Rattle.transfer.specs.Transfer.{readFrom, load, storeTo, transfers}

@@ -11,7 +11,7 @@ use Rattle.processor.specs.declared.Processor.{Processor}
 use Rattle.processor.specs.Exception.{entered, returned}
 use Rattle.processor.specs.Register.{written, jumped, special, specialWritten}
 use Rattle.processor.specs.Tlb.{indexedWritten, randomWritten, entryRead, searched}
-use Rattle.processor.specs.Interrupt.{channel}
+use Rattle.interrupt.specs.Interrupt.{channel}
 use Rattle.instructions.specs.Operands.{Surroundings, surroundings, Operands, operands, fieldX, fieldY}
 use Rattle.transfer.specs.Transfer.{readFrom}
 use Rattle.decode.specs.Table.{executed}

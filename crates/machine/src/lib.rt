@@ -2,7 +2,6 @@
 use instructions::Action;
 use processor::Processor;
 use processor::Words;
-use processor::interrupt;
 use transfer::Read;
 use words::computation;
 ghost use mathlib.Core.Path.{_≡_};

@@ -5,5 +5,3 @@ pub mod Loops
 pub mod FitLaws
 pub mod FitKept
 pub mod Lowest
-pub mod Granted
-pub mod Ready

@@ -4,5 +4,3 @@ pub mod Psw
 pub mod Exception
 pub mod Register
 pub mod Tlb
-pub mod Translation
-pub mod Interrupt

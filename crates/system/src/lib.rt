@@ -1,7 +1,6 @@
 // The system instructions (manual, 3.6).
 use instructions::Action;
 use processor::Processor;
-use processor::translation;
 ghost use mathlib.Core.Path.{_≡_};
 ghost use lib.ListN.{getD};
 ghost use Rattle.system.specs.System.{privileged, illegalSystem, traps, systems};

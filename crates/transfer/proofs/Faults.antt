@@ -6,10 +6,10 @@ use Prim.Native.Nat.{ℕ}
 use native.Mathlib.Omega.{arith}
 use types.Run.{OneOf}
 use denote.Enum.Declared.{tagOf}
-use Rattle.processor.proofs.translation.Translation as T
-use Rattle.processor.specs.Translation.{translationEid}
-use Rattle.processor.specs.declared.translation.Translation.{Translation}
-use Rattle.processor.specs.declared.translation.Translation.the-variants.{Physical, TlbMiss, TlbWrite, TlbInvalid, IllegalAddress, PrivilegedAddress}
+use Rattle.translation.proofs.Translation as T
+use Rattle.translation.specs.Translation.{translationEid}
+use Rattle.translation.specs.declared.Translation.{Translation}
+use Rattle.translation.specs.declared.Translation.the-variants.{Physical, TlbMiss, TlbWrite, TlbInvalid, IllegalAddress, PrivilegedAddress}
 use Rattle.memory.specs.Map.{Memory, placeIn}
 use Rattle.memory.specs.Access.{storeAnswer, completes}
 use Rattle.memory.specs.declared.Place.{Place}

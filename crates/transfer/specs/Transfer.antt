@@ -4,9 +4,9 @@ use mathlib.Core.List.{List, [], _∷_}
 use Prim.Native.Nat.{ℕ}
 use Rattle.words.specs.Numbers.{zeroExtend, signExtend}
 use Rattle.words.specs.Computation.{sum}
-use Rattle.processor.specs.Translation.{translated, translationEid}
-use Rattle.processor.specs.declared.translation.Translation.{Translation}
-use Rattle.processor.specs.declared.translation.Translation.the-variants.{Physical, TlbMiss, TlbWrite, TlbInvalid, IllegalAddress, PrivilegedAddress}
+use Rattle.translation.specs.Translation.{translated, translationEid}
+use Rattle.translation.specs.declared.Translation.{Translation}
+use Rattle.translation.specs.declared.Translation.the-variants.{Physical, TlbMiss, TlbWrite, TlbInvalid, IllegalAddress, PrivilegedAddress}
 use Rattle.memory.specs.Map.{Memory}
 use Rattle.memory.specs.Access.{loadOf, loadedEid, storeAnswer, storedEid}
 use Rattle.memory.specs.declared.Loaded.{Loaded}

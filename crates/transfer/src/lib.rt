@@ -4,9 +4,8 @@ use memory::Loaded;
 use memory::Place;
 use processor::Processor;
 use processor::Words;
-use processor::translation;
-use processor::translation::Translation;
-use processor::translation::Width;
+use translation::Translation;
+use translation::Width;
 use words::computation;
 use words::extension;
 ghost use mathlib.Core.Path.{_≡_};
@@ -14,7 +13,7 @@ ghost use lib.ListN.{getD};
 ghost use Rattle.memory.specs.Map.{memory};
 ghost use Rattle.instructions.specs.Operands.{operands, surroundings, simple, illegal};
 ghost use Rattle.words.specs.Numbers.{zeroExtend};
-ghost use Rattle.processor.specs.Translation.{bytesOf};
+ghost use Rattle.translation.specs.Translation.{bytesOf};
 ghost use Rattle.transfer.specs.Transfer.{readFrom, extensions, landed, storeTo, transfers};
 
 // What a read through the translation brings: a value, or a fault's identifier.

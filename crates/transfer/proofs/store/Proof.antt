@@ -6,7 +6,7 @@ use Rattle.transfer.specs.Transfer.{storeThrough, storeTo}
 use Rattle.instructions.specs.declared.Action.the-variants.{Exception}
 use Rattle.transfer.proofs.Faults.{store-fault, store-done, store-timeout}
 use Rattle.memory.specs.Map.{memory}
-use Rattle.processor.specs.Translation.{bytesOf}
+use Rattle.translation.specs.Translation.{bytesOf}
 use Rattle.transfer.proofs.store.Statement.{statement}
 use Rattle.transfer.proofs.store.Tie as tie
 
