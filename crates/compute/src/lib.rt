@@ -1,12 +1,11 @@
 // The computation instructions (manual, 3.3).
 use instructions::Action;
 use processor::Processor;
-use words::computation;
 use words::extension;
 ghost use mathlib.Core.Path.{_≡_};
 ghost use Prim.Native.Nat.{_≤_};
 ghost use lib.ListN.{getD};
-ghost use Rattle.words.specs.Computation.{signedQuotient, unsignedQuotient, signedRemainder, unsignedRemainder};
+ghost use Rattle.computation.specs.Computation.{signedQuotient, unsignedQuotient, signedRemainder, unsignedRemainder};
 ghost use Rattle.instructions.specs.Operands.{operands, illegal};
 ghost use Rattle.compute.specs.Compute.{unlessZero, computations};
 

@@ -3,9 +3,9 @@ use mathlib.Core.Bool.{Bool, cond}
 use mathlib.Core.List.{List, [], _∷_}
 use Prim.Native.Nat.{ℕ, _*_}
 use Rattle.words.specs.Numbers.{signExtend}
-use Rattle.words.specs.Computation.{sum}
-use Rattle.words.specs.Comparison.{unsignedHolds, signedHolds}
-use Rattle.words.specs.declared.comparison.Order.the-variants.{Equal, NotEqual, LessOrEqual, Less, GreaterOrEqual, Greater}
+use Rattle.computation.specs.Computation.{sum}
+use Rattle.comparison.specs.Comparison.{unsignedHolds, signedHolds}
+use Rattle.comparison.specs.declared.Order.the-variants.{Equal, NotEqual, LessOrEqual, Less, GreaterOrEqual, Greater}
 use Rattle.instructions.specs.Operands.{Simple}
 use Rattle.instructions.specs.declared.Action.{Action}
 use Rattle.instructions.specs.declared.Action.the-variants.{Write}

@@ -1,9 +1,7 @@
 // The control flow instructions (manual, 3.4).
+use comparison::Order;
 use instructions::Action;
 use processor::Processor;
-use words::comparison;
-use words::comparison::Order;
-use words::computation;
 use words::extension;
 ghost use mathlib.Core.Path.{_≡_};
 ghost use lib.ListN.{getD};

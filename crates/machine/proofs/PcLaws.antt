@@ -6,7 +6,7 @@ use Prim.Native.Nat.{ℕ, zero, suc}
 use lib.Dec.{eqb}
 use lib.ListN.{getD}
 use borrow.Author.Tests.{ne-eqb}
-use Rattle.words.specs.Computation.{sum}
+use Rattle.computation.specs.Computation.{sum}
 use Rattle.processor.specs.declared.Processor.{Processor}
 use Rattle.processor.specs.Exception.{returned}
 use Rattle.processor.specs.Register.{written, jumped, special, specialWritten}

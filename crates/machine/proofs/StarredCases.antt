@@ -5,8 +5,8 @@ use mathlib.Core.List.{List, [], _∷_, _++_}
 use Prim.Native.Nat.{ℕ, _+_, _/_, _%_}
 use lib.ListN.{replicate, getD, set}
 use Rattle.words.specs.Numbers.{bit, truncate, signExtend, zeroExtend, signed, wordOf}
-use Rattle.words.specs.Computation.{sum, difference, signedQuotient, shiftArithmetic}
-use Rattle.words.specs.Comparison.{signedHolds, unsignedHolds}
+use Rattle.computation.specs.Computation.{sum, difference, signedQuotient, shiftArithmetic}
+use Rattle.comparison.specs.Comparison.{signedHolds, unsignedHolds}
 use Rattle.endian.specs.BigEndian.{readAt, writeAt}
 use Rattle.memory.specs.Map.{memory, within, locate, placeOf}
 use Rattle.memory.specs.Access.{loadOf, storeAnswer, memoryAfter}

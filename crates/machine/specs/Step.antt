@@ -4,7 +4,7 @@ use mathlib.Core.List.{List}
 use Prim.Native.Nat.{ℕ}
 use lib.Dec.{ltb, eqb}
 use lib.ListN.{getD}
-use Rattle.words.specs.Computation.{sum}
+use Rattle.computation.specs.Computation.{sum}
 use Rattle.memory.specs.Map.{Memory}
 use Rattle.memory.specs.Access.{memoryAfter}
 use Rattle.processor.specs.declared.Processor.{Processor}

@@ -3,7 +3,6 @@ use instructions::Action;
 use processor::Processor;
 use processor::Words;
 use transfer::Read;
-use words::computation;
 ghost use mathlib.Core.Path.{_≡_};
 ghost use Rattle.memory.specs.Map.{memory};
 ghost use Rattle.memory.specs.Access.{memoryAfter};

@@ -6,7 +6,6 @@ use processor::Processor;
 use processor::Words;
 use translation::Translation;
 use translation::Width;
-use words::computation;
 use words::extension;
 ghost use mathlib.Core.Path.{_≡_};
 ghost use lib.ListN.{getD};

@@ -8,7 +8,7 @@ use Rattle.instructions.specs.Operands.{operands, illegal}
 use Rattle.instructions.specs.Operands.{operands, intoR, intoY, illegal}
 use Rattle.instructions.proofs.Arms.{arm}
 use Rattle.compute.proofs.Arms.{computation-illegal}
-use Rattle.words.specs.Computation.{and, or, xor, xnor, shiftLeft, shiftRight, shiftArithmetic}
+use Rattle.computation.specs.Computation.{and, or, xor, xnor, shiftLeft, shiftRight, shiftArithmetic}
 use Rattle.compute.proofs.logic.Statement.{statement}
 use Rattle.compute.proofs.logic.Tie as tie
 
