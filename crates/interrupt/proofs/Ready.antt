@@ -10,7 +10,7 @@ use borrow.Author.Tests.{eq-eqb, ne-eqb, eqb-false}
 use Rattle.words.specs.Numbers.{bit}
 use Rattle.computation.specs.Computation.{and}
 use Rattle.computation.proofs.BitLaws.{and-bit}
-use Rattle.processor.specs.Psw.{interruptCurrent, enabled}
+use Rattle.status.specs.Psw.{interruptCurrent, enabled}
 use Rattle.interrupt.specs.Interrupt.{lowest, channel}
 
 -- ---- bits, one shift on

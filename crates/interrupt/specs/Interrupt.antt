@@ -3,7 +3,7 @@ use mathlib.Core.Bool.{cond}
 use Prim.Native.Nat.{ℕ, zero, suc, _/_, _%_}
 use lib.Bits.{bitAnd}
 use lib.Dec.{eqb}
-use Rattle.processor.specs.Psw.{interruptCurrent, enabled}
+use Rattle.status.specs.Psw.{interruptCurrent, enabled}
 
 -- the lowest of the n channels from i on whose bit is set, or 32; bit j of ready is channel i + j
 unfoldable pub lowest : ℕ → ℕ → ℕ → ℕ

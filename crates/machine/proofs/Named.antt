@@ -8,11 +8,11 @@ use lib.Dec.{eqb, ltb}
 use lib.ListN.{getD}
 use borrow.Author.Tests.{lt-ltb, le-ltb, ltb-true, eqb-true}
 use mathlib.Core.List.{List}
-use Rattle.processor.specs.Psw.{identifier, interruptCurrent, enabled, pushed}
+use Rattle.status.specs.Psw.{identifier, interruptCurrent, enabled, pushed}
 use Rattle.processor.specs.Exception.{entered}
 use Rattle.interrupt.specs.Interrupt.{lowest, channel}
 use Rattle.translation.specs.Translation.{translated}
-use Rattle.processor.proofs.PswLaws.{Fields, fieldsOf, pushed-fields}
+use Rattle.status.proofs.PswLaws.{Fields, fieldsOf, pushed-fields}
 use Rattle.instructions.specs.Operands.{Surroundings}
 use Rattle.transfer.specs.Transfer.{readFrom}
 use Rattle.instructions.specs.declared.Action.{Action}

@@ -12,7 +12,7 @@ use Rattle.memory.specs.Map.{memory, within, locate, placeOf}
 use Rattle.memory.specs.Access.{loadOf, storeAnswer, memoryAfter}
 use Rattle.processor.specs.declared.Processor.{Processor}
 use Rattle.processor.specs.State.{atReset, keptPsw, keptHigh, keptLow}
-use Rattle.processor.specs.Psw.{vector, userCurrent, userPrevious, userOld, interruptCurrent, interruptPrevious, interruptOld, identifier, enabled, pswOf, pushed, popped, userMode}
+use Rattle.status.specs.Psw.{vector, userCurrent, userPrevious, userOld, interruptCurrent, interruptPrevious, interruptOld, identifier, enabled, pswOf, pushed, popped, userMode}
 use Rattle.processor.specs.Exception.{serviceBase, userMiss, serviceAddress, entered, returned}
 use Rattle.processor.specs.Register.{put, written, jumped, special, specialWritten}
 use Rattle.processor.specs.Tlb.{findFrom, lookup, entryWritten, indexedWritten}

@@ -1,5 +1,4 @@
 -- The laws of `processor`, in the order to read them.
-pub mod PswLaws
 pub mod EntryLaws
 pub mod Loops
 pub mod FitLaws

@@ -7,7 +7,6 @@ mod exception;
 mod fitness;
 mod kept;
 mod register;
-mod status;
 pub mod tlb;
 
 // A register file, or the high or low words of the TLB.

@@ -8,7 +8,7 @@ use lib.Dec.{leb, ltb, eqb}
 use lib.ListN.{getD}
 use borrow.Author.Tests.{ltb-true, leb-true, leb-false, eqb-true}
 use Rattle.words.specs.Logic.{both}
-use Rattle.processor.specs.Psw.{userMode}
+use Rattle.status.specs.Psw.{userMode}
 use Rattle.processor.specs.Tlb.{pageOf, lookup}
 use Rattle.translation.specs.Translation.{frameOf, valid, writable, through, mapped, forbidden, translated}
 use Rattle.translation.specs.declared.Translation.{Translation}

@@ -5,7 +5,7 @@ use Prim.Native.Nat.{ℕ, _+_, _*_, _-_, _/_, _%_}
 use lib.Dec.{leb, ltb, eqb}
 use lib.ListN.{getD}
 use Rattle.words.specs.Logic.{both}
-use Rattle.processor.specs.Psw.{userMode}
+use Rattle.status.specs.Psw.{userMode}
 use Rattle.processor.specs.Tlb.{pageOf, lookup}
 use Rattle.translation.specs.declared.Width.{Width}
 use Rattle.translation.specs.declared.Width.the-variants.{Byte, Half, Word}

@@ -6,7 +6,7 @@ ghost use mathlib.Core.Path.{_≡_};
 ghost use mathlib.Core.Bool.{not};
 ghost use Prim.Native.Nat.{_%_};
 ghost use lib.Dec.{eqb};
-ghost use Rattle.processor.specs.Psw.{userMode};
+ghost use Rattle.status.specs.Psw.{userMode};
 ghost use Rattle.translation.specs.Translation.{bytesOf, through, mapped, forbidden, translated, translationEid};
 
 // The size of an access.

@@ -2,7 +2,7 @@
 use borrow.Author.Needs.{needs}
 use borrow.Author.Tests.{eq-eqb, ne-eqb}
 use Rattle.interrupt.specs.Interrupt.{channel}
-use Rattle.processor.specs.Psw.{interruptCurrent, enabled}
+use Rattle.status.specs.Psw.{interruptCurrent, enabled}
 use Rattle.interrupt.proofs.accepted.Statement.{statement}
 use Rattle.interrupt.proofs.accepted.Tie as tie
 

@@ -1,6 +1,6 @@
 -- `translation::is_user_mode` meets its contract, by its definition.
 use borrow.Author.Needs.{needs}
-use Rattle.processor.specs.Psw.{userMode, userCurrent}
+use Rattle.status.specs.Psw.{userMode, userCurrent}
 use Rattle.translation.proofs.is_user_mode.Statement.{statement}
 use Rattle.translation.proofs.is_user_mode.Tie as tie
 

@@ -1,8 +1,8 @@
--- `processor::status::pop` meets its contract, by the laws of PswLaws.
+-- `status::pop` meets its contract, by the laws of PswLaws.
 use borrow.Author.Needs.{needs}
-use Rattle.processor.proofs.PswLaws.{pop-code}
-use Rattle.processor.proofs.status.pop.Statement.{statement}
-use Rattle.processor.proofs.status.pop.Tie as tie
+use Rattle.status.proofs.PswLaws.{pop-code}
+use Rattle.status.proofs.pop.Statement.{statement}
+use Rattle.status.proofs.pop.Tie as tie
 
 mul-result : tie.Need-mul-result
 mul-result c = search needs

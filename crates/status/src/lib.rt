@@ -1,6 +1,6 @@
 // The processor status word (manual, 2.7).
 ghost use mathlib.Core.Path.{_≡_};
-ghost use Rattle.processor.specs.Psw.{pushed, popped};
+ghost use Rattle.status.specs.Psw.{pushed, popped};
 
 // 0 pushed on both stacks, and the identifier set: each pair of bits moves down by one.
 pub fn push(psw: u32, eid: u32) -> u32

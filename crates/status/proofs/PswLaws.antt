@@ -4,7 +4,7 @@ use mathlib.Core.Bool.{false}
 use lib.Dec.{eqb}
 use Prim.Native.Nat.{ℕ, _+_, _*_, _/_, _%_, _^_, _≤_, _<_}
 use native.Mathlib.Omega.{arith}
-use Rattle.processor.specs.Psw.{vector, userCurrent, userPrevious, userOld, interruptCurrent, interruptPrevious, interruptOld, identifier, enabled, pswOf, pushed, popped, userMode}
+use Rattle.status.specs.Psw.{vector, userCurrent, userPrevious, userOld, interruptCurrent, interruptPrevious, interruptOld, identifier, enabled, pswOf, pushed, popped, userMode}
 
 -- ---- the code moves pairs of bits
 

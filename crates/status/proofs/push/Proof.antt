@@ -1,8 +1,8 @@
--- `processor::status::push` meets its contract, by the laws of PswLaws.
+-- `status::push` meets its contract, by the laws of PswLaws.
 use borrow.Author.Needs.{needs}
-use Rattle.processor.proofs.PswLaws.{push-code}
-use Rattle.processor.proofs.status.push.Statement.{statement}
-use Rattle.processor.proofs.status.push.Tie as tie
+use Rattle.status.proofs.PswLaws.{push-code}
+use Rattle.status.proofs.push.Statement.{statement}
+use Rattle.status.proofs.push.Tie as tie
 
 mul-result : tie.Need-mul-result
 mul-result c = search needs
