@@ -1,8 +1,2 @@
--- The laws of `instructions`, in the order to read them.
+-- The laws of `instructions`.
 pub mod Arms
-pub mod Targets
-pub mod Faults
-pub mod Dispatch
-pub mod Rows
-pub mod Named
-pub mod Small

@@ -1,7 +1,2 @@
--- The definitions of `instructions`, in the order to read them.
+-- The definitions of `instructions`.
 pub mod Operands
-pub mod Compute
-pub mod Control
-pub mod Transfer
-pub mod System
-pub mod Table

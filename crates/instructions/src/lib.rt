@@ -1,9 +1,4 @@
-// The decoder, and the action of each of the 61 instructions. Nothing here changes the machine: an action is only named.
-mod compute;
-mod control;
-pub mod decode;
-mod system;
-pub mod transfer;
+// The action that an instruction comes to. Nothing here changes the machine: an action is only named.
 
 // What a step does, once it is known.
 pub enum Action {

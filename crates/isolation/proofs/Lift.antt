@@ -12,7 +12,7 @@ use Rattle.memory.specs.Map.{Memory}
 use Rattle.memory.proofs.OwnBytes.{Apart, accepted-apart}
 use Rattle.memory.proofs.StoreLaws.{store-lengths}
 use Rattle.processor.specs.State.{fit}
-use Rattle.processor.specs.Psw.{userMode}
+use Rattle.status.specs.Psw.{userMode}
 use Rattle.processor.specs.declared.Processor.{Processor}
 use Rattle.instructions.specs.declared.Action.{Action}
 use Rattle.instructions.specs.declared.Action.the-variants.{Write, Store, System, Exception}

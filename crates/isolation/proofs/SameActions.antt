@@ -4,13 +4,13 @@ use mathlib.Core.List.{List, [], _∷_}
 use Prim.Native.Nat.{ℕ, _*_}
 use Rattle.memory.specs.Map.{Memory}
 use Rattle.instructions.specs.Operands.{Surroundings, surroundings, Operands, Simple, Meaning, simple, illegal, opcodeOf, fieldY}
-use Rattle.instructions.specs.Compute.{computations}
-use Rattle.instructions.specs.Control.{controls}
-use Rattle.instructions.specs.Transfer.{readFrom, addressOf, landed, load, storeTo, transfers}
-use Rattle.instructions.specs.System.{SystemMeaning, traps, systems}
-use Rattle.instructions.specs.Table.{byPsw, executed}
+use Rattle.compute.specs.Compute.{computations}
+use Rattle.control.specs.Control.{controls}
+use Rattle.transfer.specs.Transfer.{readFrom, addressOf, landed, load, storeTo, transfers}
+use Rattle.system.specs.System.{SystemMeaning, traps, systems}
+use Rattle.decode.specs.Table.{byPsw, executed}
 use Rattle.words.specs.Lists.{Every}
-use Rattle.instructions.proofs.Rows.{_&_, row-at}
+use Rattle.decode.proofs.Rows.{_&_, row-at}
 
 module _ (psw : ℕ) (highs lows : List ℕ) (m n : Memory)
     (reads : (width blocks : ℕ) → blocks * width ≡ 4096 → (address : ℕ)

@@ -11,20 +11,20 @@ use Rattle.memory.specs.Map.{Memory, placeIn, byteAt}
 use Rattle.memory.specs.Access.{loadOf, storeAnswer, completes}
 use Rattle.memory.proofs.Frames.{one-frame}
 use Rattle.memory.proofs.OwnBytes.{Apart, SameLengths, load-same, same-place}
-use Rattle.processor.specs.Psw.{userMode}
-use Rattle.processor.specs.Interrupt.{channel}
+use Rattle.status.specs.Psw.{userMode}
+use Rattle.interrupt.specs.Interrupt.{channel}
 use Rattle.processor.specs.Tlb.{pageOf, lookup}
-use Rattle.processor.specs.Translation.{frameOf, translated}
+use Rattle.translation.specs.Translation.{frameOf, translated}
 use Rattle.processor.specs.declared.Processor.{Processor}
-use Rattle.processor.specs.declared.translation.Translation.{Translation}
-use Rattle.processor.specs.declared.translation.Translation.the-variants.{Physical, TlbMiss, TlbWrite, TlbInvalid, IllegalAddress, PrivilegedAddress}
-use Rattle.processor.proofs.Granted.{Granted, user-granted}
+use Rattle.translation.specs.declared.Translation.{Translation}
+use Rattle.translation.specs.declared.Translation.the-variants.{Physical, TlbMiss, TlbWrite, TlbInvalid, IllegalAddress, PrivilegedAddress}
+use Rattle.translation.proofs.Granted.{Granted, user-granted}
 use Rattle.instructions.specs.Operands.{Surroundings, surroundings}
-use Rattle.instructions.specs.Transfer.{answered, readThrough, readFrom, settled, storeThrough, storeTo}
+use Rattle.transfer.specs.Transfer.{answered, readThrough, readFrom, settled, storeThrough, storeTo}
 use Rattle.instructions.specs.declared.Action.{Action}
 use Rattle.instructions.specs.declared.Action.the-variants.{Exception}
-use Rattle.instructions.specs.declared.transfer.Read.{Read}
-use Rattle.instructions.specs.declared.transfer.Read.the-variants.{Value, Fault}
+use Rattle.transfer.specs.declared.Read.{Read}
+use Rattle.transfer.specs.declared.Read.the-variants.{Value, Fault}
 use Rattle.machine.specs.State.{Machine}
 use Rattle.machine.specs.Step.{operandsOf, decoded, lookFrom, look}
 use Rattle.isolation.specs.Frames.{frameAt, lowWord, ValidUserPage, Reached, ReachedWritable, SameIn}

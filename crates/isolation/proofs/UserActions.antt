@@ -8,23 +8,23 @@ use Rattle.memory.specs.Map.{Memory}
 use Rattle.memory.specs.Access.{storeAnswer}
 use Rattle.memory.specs.declared.Stored.{Stored}
 use Rattle.memory.specs.declared.Stored.the-variants as stored
-use Rattle.processor.specs.Psw.{userMode}
-use Rattle.processor.specs.Translation.{translated}
-use Rattle.processor.specs.declared.translation.Translation.{Translation}
-use Rattle.processor.specs.declared.translation.Translation.the-variants.{Physical, TlbMiss, TlbWrite, TlbInvalid, IllegalAddress, PrivilegedAddress}
+use Rattle.status.specs.Psw.{userMode}
+use Rattle.translation.specs.Translation.{translated}
+use Rattle.translation.specs.declared.Translation.{Translation}
+use Rattle.translation.specs.declared.Translation.the-variants.{Physical, TlbMiss, TlbWrite, TlbInvalid, IllegalAddress, PrivilegedAddress}
 use Rattle.instructions.specs.Operands.{Surroundings, Operands, Simple, Meaning, simple, illegal, opcodeOf, fieldY}
-use Rattle.instructions.specs.Compute.{unlessZero, computations}
-use Rattle.instructions.specs.Control.{branch, controls}
-use Rattle.instructions.specs.Transfer.{readFrom, addressOf, landed, load, settled, storeThrough, storeTo, transfers}
-use Rattle.instructions.specs.System.{SystemMeaning, privileged, traps, systems}
-use Rattle.instructions.specs.Table.{byPsw, executed}
+use Rattle.compute.specs.Compute.{unlessZero, computations}
+use Rattle.control.specs.Control.{branch, controls}
+use Rattle.transfer.specs.Transfer.{readFrom, addressOf, landed, load, settled, storeThrough, storeTo, transfers}
+use Rattle.system.specs.System.{SystemMeaning, privileged, traps, systems}
+use Rattle.decode.specs.Table.{byPsw, executed}
 use Rattle.instructions.specs.declared.Action.{Action}
 use Rattle.instructions.specs.declared.Action.the-variants.{Write, Store, System, Exception}
-use Rattle.instructions.specs.declared.transfer.Read.{Read}
-use Rattle.instructions.specs.declared.transfer.Read.the-variants.{Value, Fault}
+use Rattle.transfer.specs.declared.Read.{Read}
+use Rattle.transfer.specs.declared.Read.the-variants.{Value, Fault}
 use Rattle.machine.specs.Step.{storeWidth}
 use Rattle.words.specs.Lists.{Every}
-use Rattle.instructions.proofs.Rows.{_&_, row-at}
+use Rattle.decode.proofs.Rows.{_&_, row-at}
 
 -- a store of 1, 2 or 4 bytes to the physical address that the translation grants
 pub record GrantedStore (s : Surroundings) (width physical : ℕ) : Type 0 where

@@ -9,20 +9,20 @@ use Rattle.memory.specs.Map.{Memory, byteAt}
 use Rattle.memory.specs.Access.{memoryAfter}
 use Rattle.memory.proofs.OwnBytes.{Apart}
 use Rattle.memory.proofs.StoreLaws.{store-lengths, store-rom, store-keeps}
-use Rattle.processor.specs.Psw.{userMode, pushed}
-use Rattle.processor.specs.Interrupt.{channel}
+use Rattle.status.specs.Psw.{userMode, pushed}
+use Rattle.interrupt.specs.Interrupt.{channel}
 use Rattle.processor.specs.Tlb.{lookup}
-use Rattle.processor.specs.Translation.{valid, writable, frameOf}
+use Rattle.translation.specs.Translation.{valid, writable, frameOf}
 use Rattle.processor.specs.Exception.{entered, entryHighAfter, badAddressAfter}
 use Rattle.processor.specs.Register.{written, jumped}
 use Rattle.processor.specs.declared.Processor.{Processor}
-use Rattle.processor.proofs.PswLaws.{pushed-kernel}
-use Rattle.processor.proofs.Granted.{user-granted}
-use Rattle.instructions.specs.Transfer.{readFrom}
+use Rattle.status.proofs.PswLaws.{pushed-kernel}
+use Rattle.translation.proofs.Granted.{user-granted}
+use Rattle.transfer.specs.Transfer.{readFrom}
 use Rattle.instructions.specs.declared.Action.{Action}
 use Rattle.instructions.specs.declared.Action.the-variants.{Write, Store, System, Exception}
-use Rattle.instructions.specs.declared.transfer.Read.{Read}
-use Rattle.instructions.specs.declared.transfer.Read.the-variants.{Value, Fault}
+use Rattle.transfer.specs.declared.Read.{Read}
+use Rattle.transfer.specs.declared.Read.the-variants.{Value, Fault}
 use Rattle.machine.specs.State.{Machine}
 use Rattle.machine.specs.Step.{surroundingsOf, operandsOf, decoded, lookFrom, look, storeWidth, processorAfter, memoryDone, done, stepOf, stepEid, eidOf}
 use Rattle.isolation.specs.Frames.{frameAt, lowWord, ValidUserPage, Reached, ReachedWritable, SameIn}

@@ -6,7 +6,7 @@ use lib.ListN.{length, getD}
 use Rattle.memory.specs.Map.{Memory, byteAt}
 use Rattle.processor.specs.declared.Processor.{Processor}
 use Rattle.processor.specs.Tlb.{lookup}
-use Rattle.processor.specs.Translation.{frameOf, valid, writable}
+use Rattle.translation.specs.Translation.{frameOf, valid, writable}
 
 -- the frame of a physical address: 4,096 addresses from a multiple of 4,096
 abbrev pub frameAt : ℕ → ℕ

@@ -4,7 +4,7 @@ use mathlib.Core.List.{List, [], _∷_, _++_}
 use Prim.Native.Nat.{ℕ, zero, suc}
 use lib.Dec.{eqb}
 use Rattle.words.specs.Logic.{both}
-use Rattle.processor.specs.Psw.{userMode}
+use Rattle.status.specs.Psw.{userMode}
 use Rattle.machine.specs.State.{Machine}
 use Rattle.machine.specs.Step.{stepOf, stepEid}
 use Rattle.runs.specs.Refusal.{runRefusal}

@@ -5,13 +5,13 @@ use Prim.Native.Nat.{ℕ, _≤_, _<_}
 use borrow.Author.Tests.{lt-ltb, le-ltb, eq-eqb, ne-eqb}
 use Rattle.memory.specs.Map.{Memory}
 use Rattle.processor.specs.declared.Processor.{Processor}
-use Rattle.processor.specs.Interrupt.{channel}
+use Rattle.interrupt.specs.Interrupt.{channel}
 use Rattle.instructions.specs.Operands.{Surroundings, operands}
-use Rattle.instructions.specs.Table.{executed}
-use Rattle.instructions.specs.Transfer.{readFrom}
+use Rattle.decode.specs.Table.{executed}
+use Rattle.transfer.specs.Transfer.{readFrom}
 use Rattle.instructions.specs.declared.Action.{Action}
 use Rattle.instructions.specs.declared.Action.the-variants.{Exception}
-use Rattle.instructions.specs.declared.transfer.Read.{Read}
+use Rattle.transfer.specs.declared.Read.{Read}
 use Rattle.machine.specs.State.{Machine}
 use Rattle.machine.specs.Step.{decoded, lookFrom, look, storeWidth, done, eidOf, stepOf, stepEid}
 

@@ -8,18 +8,18 @@ use lib.Dec.{eqb, ltb}
 use lib.ListN.{getD}
 use borrow.Author.Tests.{lt-ltb, le-ltb, ltb-true, eqb-true}
 use mathlib.Core.List.{List}
-use Rattle.processor.specs.Psw.{identifier, interruptCurrent, enabled, pushed}
+use Rattle.status.specs.Psw.{identifier, interruptCurrent, enabled, pushed}
 use Rattle.processor.specs.Exception.{entered}
-use Rattle.processor.specs.Interrupt.{lowest, channel}
-use Rattle.processor.specs.Translation.{translated}
-use Rattle.processor.proofs.PswLaws.{Fields, fieldsOf, pushed-fields}
+use Rattle.interrupt.specs.Interrupt.{lowest, channel}
+use Rattle.translation.specs.Translation.{translated}
+use Rattle.status.proofs.PswLaws.{Fields, fieldsOf, pushed-fields}
 use Rattle.instructions.specs.Operands.{Surroundings}
-use Rattle.instructions.specs.Transfer.{readFrom}
+use Rattle.transfer.specs.Transfer.{readFrom}
 use Rattle.instructions.specs.declared.Action.{Action}
 use Rattle.instructions.specs.declared.Action.the-variants.{Exception}
-use Rattle.instructions.specs.declared.transfer.Read.{Read}
-use Rattle.instructions.specs.declared.transfer.Read.the-variants.{Value, Fault}
-use Rattle.instructions.proofs.Named.{Named, NamedRead, read-named, executed-named}
+use Rattle.transfer.specs.declared.Read.{Read}
+use Rattle.transfer.specs.declared.Read.the-variants.{Value, Fault}
+use Rattle.decode.proofs.Named.{Named, NamedRead, read-named, executed-named}
 use Rattle.machine.specs.State.{Machine}
 use Rattle.machine.specs.Step.{surroundingsOf, operandsOf, decoded, lookFrom, look, stepOf, stepEid}
 use Rattle.machine.proofs.StepLaws.{fault-enters, fault-named}

@@ -5,21 +5,21 @@ use Prim.Native.Nat.{ℕ}
 use lib.Dec.{eqb}
 use lib.ListN.{getD}
 use borrow.Author.Tests.{ne-eqb}
-use Rattle.words.specs.Computation.{sum}
+use Rattle.computation.specs.Computation.{sum}
 use Rattle.words.proofs.Cases.{chosen}
 use Rattle.processor.specs.declared.Processor.{Processor}
 use Rattle.processor.specs.Exception.{returned}
 use Rattle.processor.specs.Register.{written, jumped, special, specialWritten}
 use Rattle.processor.specs.Tlb.{entryWritten, indexedWritten, randomWritten, entryRead, searched}
 use Rattle.instructions.specs.Operands.{Surroundings, Operands, Simple, illegal, fieldY}
-use Rattle.instructions.specs.Compute.{unlessZero, computations}
-use Rattle.instructions.specs.Transfer.{readFrom, addressOf, landed, load}
-use Rattle.instructions.specs.declared.transfer.Read.{Read}
-use Rattle.instructions.specs.declared.transfer.Read.the-variants.{Value, Fault}
+use Rattle.compute.specs.Compute.{unlessZero, computations}
+use Rattle.transfer.specs.Transfer.{readFrom, addressOf, landed, load}
+use Rattle.transfer.specs.declared.Read.{Read}
+use Rattle.transfer.specs.declared.Read.the-variants.{Value, Fault}
 use Rattle.instructions.specs.declared.Action.{Action}
 use Rattle.instructions.specs.declared.Action.the-variants.{Write, Store, System, Exception}
 use Rattle.words.specs.Lists.{Every}
-use Rattle.instructions.proofs.Rows.{_&_, every-at}
+use Rattle.decode.proofs.Rows.{_&_, every-at}
 use Rattle.machine.specs.Step.{systemDone, processorAfter}
 
 -- ---- the PC of a completed computation is that after the fetch

@@ -15,7 +15,7 @@ use Rattle.processor.specs.State.{atReset}
 use Rattle.processor.specs.Exception.{entered, returned}
 use Rattle.processor.specs.Register.{put, written, jumped, special, specialWritten}
 use Rattle.processor.specs.Tlb.{pageOf, lookup, entryWritten, indexedWritten, nextReplacement, randomWritten, tlbRegisters, entryRead, searched}
-use Rattle.processor.proofs.PswLaws.{pushed-lt, popped-lt}
+use Rattle.status.proofs.PswLaws.{pushed-lt, popped-lt}
 use Rattle.processor.proofs.Sizes.{service-lt, kept-psw-lt, kept-index-lt, kept-high-lt, kept-low-lt, replacement-lt, found-lt}
 use Rattle.machine.specs.State.{Machine, machine, Words32, Bytes, Representable}
 

@@ -5,24 +5,24 @@ use mathlib.Core.List.{List, [], _∷_, _++_}
 use Prim.Native.Nat.{ℕ, _+_, _/_, _%_}
 use lib.ListN.{replicate, getD, set}
 use Rattle.words.specs.Numbers.{bit, truncate, signExtend, zeroExtend, signed, wordOf}
-use Rattle.words.specs.Computation.{sum, difference, signedQuotient, shiftArithmetic}
-use Rattle.words.specs.Comparison.{signedHolds, unsignedHolds}
+use Rattle.computation.specs.Computation.{sum, difference, signedQuotient, shiftArithmetic}
+use Rattle.comparison.specs.Comparison.{signedHolds, unsignedHolds}
 use Rattle.endian.specs.BigEndian.{readAt, writeAt}
 use Rattle.memory.specs.Map.{memory, within, locate, placeOf}
 use Rattle.memory.specs.Access.{loadOf, storeAnswer, memoryAfter}
 use Rattle.processor.specs.declared.Processor.{Processor}
 use Rattle.processor.specs.State.{atReset, keptPsw, keptHigh, keptLow}
-use Rattle.processor.specs.Psw.{vector, userCurrent, userPrevious, userOld, interruptCurrent, interruptPrevious, interruptOld, identifier, enabled, pswOf, pushed, popped, userMode}
+use Rattle.status.specs.Psw.{vector, userCurrent, userPrevious, userOld, interruptCurrent, interruptPrevious, interruptOld, identifier, enabled, pswOf, pushed, popped, userMode}
 use Rattle.processor.specs.Exception.{serviceBase, userMiss, serviceAddress, entered, returned}
 use Rattle.processor.specs.Register.{put, written, jumped, special, specialWritten}
 use Rattle.processor.specs.Tlb.{findFrom, lookup, entryWritten, indexedWritten}
-use Rattle.processor.specs.Translation.{valid, writable, through, mapped, forbidden, translated}
-use Rattle.processor.specs.Interrupt.{lowest, channel}
-use Rattle.instructions.specs.Compute.{unlessZero, computations}
-use Rattle.instructions.specs.Control.{target, branch, controls}
-use Rattle.instructions.specs.Transfer.{readFrom, load, storeTo, transfers}
-use Rattle.instructions.specs.System.{privileged, traps, systems}
-use Rattle.instructions.specs.Table.{meanings, executed}
+use Rattle.translation.specs.Translation.{valid, writable, through, mapped, forbidden, translated}
+use Rattle.interrupt.specs.Interrupt.{lowest, channel}
+use Rattle.compute.specs.Compute.{unlessZero, computations}
+use Rattle.control.specs.Control.{target, branch, controls}
+use Rattle.transfer.specs.Transfer.{readFrom, load, storeTo, transfers}
+use Rattle.system.specs.System.{privileged, traps, systems}
+use Rattle.decode.specs.Table.{meanings, executed}
 use Rattle.machine.specs.State.{Machine, machine}
 use Rattle.machine.specs.Step.{lookFrom, look, systemDone, storeWidth, stepOf, stepEid}
 

@@ -3,8 +3,8 @@ use mathlib.Core.Path.{_≡_}
 use Prim.Native.Nat.{ℕ, _≤_, _<_}
 use borrow.Author.Tests.{lt-ltb, le-ltb}
 use Rattle.processor.specs.Exception.{entered}
-use Rattle.processor.specs.Interrupt.{channel}
-use Rattle.instructions.specs.Transfer.{readFrom}
+use Rattle.interrupt.specs.Interrupt.{channel}
+use Rattle.transfer.specs.Transfer.{readFrom}
 use Rattle.instructions.specs.declared.Action.the-variants.{Exception}
 use Rattle.machine.specs.State.{Machine}
 use Rattle.machine.specs.Step.{surroundingsOf, decoded, lookFrom, look, stepOf, stepEid}

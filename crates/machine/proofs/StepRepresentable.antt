@@ -5,21 +5,21 @@ use Prim.Native.Nat.{ℕ, zero, suc, _^_, _<_}
 use native.Mathlib.Omega.{arith}
 use lib.Dec.{eqb, ltb}
 use lib.ListN.{length, getD, List·getD-eq-default}
-use Rattle.words.specs.Computation.{sum}
+use Rattle.computation.specs.Computation.{sum}
 use Rattle.words.proofs.Cases.{chosen, below-or-not}
-use Rattle.words.proofs.Sizes.{sum-lt}
+use Rattle.computation.proofs.Sizes.{sum-lt}
 use Rattle.memory.specs.Access.{memoryAfter}
 use Rattle.memory.proofs.Bytewise.{Bytewise, store-bytewise}
 use Rattle.processor.specs.declared.Processor.{Processor}
 use Rattle.processor.specs.Register.{jumped, special}
-use Rattle.processor.specs.Interrupt.{channel}
+use Rattle.interrupt.specs.Interrupt.{channel}
 use Rattle.instructions.specs.Operands.{fieldX, fieldY}
-use Rattle.instructions.specs.Transfer.{readFrom}
+use Rattle.transfer.specs.Transfer.{readFrom}
 use Rattle.instructions.specs.declared.Action.{Action}
 use Rattle.instructions.specs.declared.Action.the-variants.{Write, Store, System, Exception}
-use Rattle.instructions.specs.declared.transfer.Read.{Read}
-use Rattle.instructions.specs.declared.transfer.Read.the-variants.{Value, Fault}
-use Rattle.instructions.proofs.Small.{Small, Words, executed-small}
+use Rattle.transfer.specs.declared.Read.{Read}
+use Rattle.transfer.specs.declared.Read.the-variants.{Value, Fault}
+use Rattle.decode.proofs.Small.{Small, Words, executed-small}
 use Rattle.machine.specs.State.{Machine, Bytes, Representable}
 use Rattle.machine.specs.Step.{surroundingsOf, operandsOf, decoded, lookFrom, look, systemDone, storeWidth, done, stepOf}
 use Rattle.machine.proofs.RepresentableKept.{having, special-lt, entered-representable, returned-representable, written-representable, jumped-representable, special-representable, indexed-representable, random-representable, read-representable, searched-representable}

@@ -4,21 +4,21 @@ use mathlib.Core.List.{List}
 use Prim.Native.Nat.{ℕ}
 use lib.Dec.{ltb, eqb}
 use lib.ListN.{getD}
-use Rattle.words.specs.Computation.{sum}
+use Rattle.computation.specs.Computation.{sum}
 use Rattle.memory.specs.Map.{Memory}
 use Rattle.memory.specs.Access.{memoryAfter}
 use Rattle.processor.specs.declared.Processor.{Processor}
 use Rattle.processor.specs.Exception.{entered, returned}
 use Rattle.processor.specs.Register.{written, jumped, special, specialWritten}
 use Rattle.processor.specs.Tlb.{indexedWritten, randomWritten, entryRead, searched}
-use Rattle.processor.specs.Interrupt.{channel}
+use Rattle.interrupt.specs.Interrupt.{channel}
 use Rattle.instructions.specs.Operands.{Surroundings, surroundings, Operands, operands, fieldX, fieldY}
-use Rattle.instructions.specs.Transfer.{readFrom}
-use Rattle.instructions.specs.Table.{executed}
+use Rattle.transfer.specs.Transfer.{readFrom}
+use Rattle.decode.specs.Table.{executed}
 use Rattle.instructions.specs.declared.Action.{Action}
 use Rattle.instructions.specs.declared.Action.the-variants.{Write, Store, System, Exception}
-use Rattle.instructions.specs.declared.transfer.Read.{Read}
-use Rattle.instructions.specs.declared.transfer.Read.the-variants.{Value, Fault}
+use Rattle.transfer.specs.declared.Read.{Read}
+use Rattle.transfer.specs.declared.Read.the-variants.{Value, Fault}
 use Rattle.machine.specs.State.{Machine}
 
 -- ---- the look

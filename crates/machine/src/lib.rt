@@ -1,12 +1,8 @@
 // One step of the machine: a look that changes nothing, and then its action.
 use instructions::Action;
-use instructions::decode;
-use instructions::transfer;
-use instructions::transfer::Read;
 use processor::Processor;
 use processor::Words;
-use processor::interrupt;
-use words::computation;
+use transfer::Read;
 ghost use mathlib.Core.Path.{_≡_};
 ghost use Rattle.memory.specs.Map.{memory};
 ghost use Rattle.memory.specs.Access.{memoryAfter};

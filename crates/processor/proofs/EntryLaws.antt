@@ -4,7 +4,7 @@ use mathlib.Core.Bool.{Bool, true, false, cond}
 use Prim.Native.Nat.{ℕ, _+_, _≤_}
 use native.Mathlib.Omega.{arith}
 use lib.Dec.{eqb}
-use Rattle.processor.specs.Psw.{vector}
+use Rattle.status.specs.Psw.{vector}
 use Rattle.processor.specs.Exception.{serviceBase, userMiss, serviceAddress}
 
 pub base-small : (psw : ℕ) → serviceBase psw ≤ 0xE0000000

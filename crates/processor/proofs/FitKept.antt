@@ -11,12 +11,12 @@ use borrow.Author.Tests.{eqb-true, eqb-false, lt-ltb, le-ltb}
 use Rattle.words.proofs.Cases.{below-or-not}
 use Rattle.words.specs.Logic.{both}
 use Rattle.processor.specs.State.{atReset, fit, onlyFrom, keptPsw, keptIndex, keptHigh, keptLow}
-use Rattle.processor.specs.Psw.{pushed, popped}
+use Rattle.status.specs.Psw.{pushed, popped}
 use Rattle.processor.specs.Exception.{entered, returned, entryHighAfter}
 use Rattle.processor.specs.Register.{put, written, jumped, after, specialWritten}
 use Rattle.processor.specs.Tlb.{lookup, pageOf, entryWritten, indexedWritten, nextReplacement, randomWritten, entryRead, foundIndex, searched}
 use Rattle.processor.specs.declared.Processor.{Processor}
-use Rattle.processor.proofs.PswLaws.{pushed-lt, popped-lt}
+use Rattle.status.proofs.PswLaws.{pushed-lt, popped-lt}
 use Rattle.processor.proofs.FitLaws.{Fit, Only, fit-means, set-only}
 
 -- ---- kept bits

@@ -1,10 +1,7 @@
 -- The laws of `processor`, in the order to read them.
-pub mod PswLaws
 pub mod EntryLaws
 pub mod Sizes
 pub mod Loops
 pub mod FitLaws
 pub mod FitKept
 pub mod Lowest
-pub mod Granted
-pub mod Ready

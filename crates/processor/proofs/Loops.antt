@@ -1,15 +1,14 @@
--- The three searches upward, as their loops run: a turn more, a turn that ends the search, and the end.
+-- The two searches upward, as their loops run: a turn more, a turn that ends the search, and the end.
 use mathlib.Core.Path.{_≡_, refl, ap, ap₂, sym, _∙_}
 use mathlib.Core.Bool.{Bool, true, false}
 use mathlib.Core.List.{List}
-use Prim.Native.Nat.{ℕ, zero, suc, _+_, _-_, _/_, _%_, _≤_, _<_}
+use Prim.Native.Nat.{ℕ, zero, suc, _+_, _-_, _≤_, _<_}
 use native.Mathlib.Numerals.{add-one}
 use native.Mathlib.Omega.{arith}
 use lib.ListN.{getD}
 use borrow.Author.Tests.{eq-eqb, ne-eqb}
 use Rattle.processor.specs.State.{onlyFrom}
 use Rattle.processor.specs.Tlb.{pageOf, findFrom}
-use Rattle.processor.specs.Interrupt.{lowest}
 
 -- of n turns, those left at turn i
 left : (n i : ℕ) → i < n → n - i ≡ suc (n - (i + 1))
@@ -48,18 +47,3 @@ module _ (kept : ℕ → ℕ) (n : ℕ) (l : List ℕ) (i : ℕ) where
   pub only-end : n ≤ i → onlyFrom kept (n - i) l i ≡ true
   unfolding onlyFrom
   only-end h = rw (over n i h)
-
--- ---- the lowest bit that is set
-
-module _ (n i ready : ℕ) where
-  pub lowest-more : i < n → (ready % 2 ≡ 1 → ⊥) → lowest (n - i) i ready ≡ lowest (n - (i + 1)) (i + 1) (ready / 2)
-  unfolding lowest
-  lowest-more h other = rw (left n i h, add-one i) (simp (ne-eqb _ _ other))
-
-  pub lowest-stop : i < n → ready % 2 ≡ 1 → lowest (n - i) i ready ≡ i
-  unfolding lowest
-  lowest-stop h same = rw (left n i h) (simp (eq-eqb _ _ same))
-
-  pub lowest-end : n ≤ i → lowest (n - i) i ready ≡ 32
-  unfolding lowest
-  lowest-end h = rw (over n i h)

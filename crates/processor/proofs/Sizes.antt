@@ -6,7 +6,7 @@ use lib.Dec.{eqb}
 use borrow.Author.Tests.{lt-ltb, le-ltb}
 use Rattle.words.proofs.Cases.{below-or-not}
 use Rattle.processor.specs.State.{keptPsw, keptIndex, keptHigh, keptLow}
-use Rattle.processor.specs.Psw.{vector}
+use Rattle.status.specs.Psw.{vector}
 use Rattle.processor.specs.Exception.{serviceBase, userMiss, serviceAddress}
 use Rattle.processor.specs.Tlb.{nextReplacement, foundIndex}
 

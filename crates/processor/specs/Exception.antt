@@ -5,7 +5,7 @@ use lib.Dec.{leb, ltb, eqb}
 use lib.ListN.{getD, set}
 use Rattle.words.specs.Logic.{both}
 use Rattle.processor.specs.State.{keptHigh}
-use Rattle.processor.specs.Psw.{vector, pushed, popped}
+use Rattle.status.specs.Psw.{vector, pushed, popped}
 use Rattle.processor.specs.declared.Processor.{Processor}
 
 -- ROM's or RAM's first address, by V

@@ -1,8 +1,5 @@
 -- The definitions of `processor`, in the order to read them.
 pub mod State
-pub mod Psw
 pub mod Exception
 pub mod Register
 pub mod Tlb
-pub mod Translation
-pub mod Interrupt

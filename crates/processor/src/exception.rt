@@ -1,6 +1,5 @@
 // Exception entry and return (manual, 2.8).
 use crate::Processor;
-use crate::status;
 ghost use mathlib.Core.Path.{_≡_};
 ghost use Rattle.processor.specs.Exception.{serviceBase, userMiss, serviceAddress, badAddressAfter, entryHighAfter, entered, returned};
 

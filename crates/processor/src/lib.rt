@@ -1,16 +1,13 @@
-// The processor state, and what changes it: exception entry and return, register writes, the TLB; and the translation of addresses.
+// The processor state, and what changes it: exception entry and return, register writes, the TLB.
 // Each method takes the processor by value and hands back the next; its contract is one equation of whole states.
 ghost use mathlib.Core.Path.{_≡_};
 ghost use Rattle.processor.specs.State.{atReset};
 
 mod exception;
 mod fitness;
-pub mod interrupt;
 mod kept;
 mod register;
-mod status;
-mod tlb;
-pub mod translation;
+pub mod tlb;
 
 // A register file, or the high or low words of the TLB.
 pub type Words = [u32; 32];

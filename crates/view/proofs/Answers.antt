@@ -11,9 +11,9 @@ use borrow.Author.Tests.{ne-eqb, lt-ltb, le-ltb, le-leb, lt-leb}
 use Rattle.words.specs.Logic.{both}
 use Rattle.processor.specs.State.{fit}
 use Rattle.processor.specs.declared.Processor.{Processor}
-use Rattle.processor.specs.declared.translation.Translation.{Translation}
-use Rattle.processor.specs.declared.translation.Translation.the-variants.{Physical, TlbMiss, TlbWrite, TlbInvalid, IllegalAddress, PrivilegedAddress}
-use Rattle.instructions.proofs.Faults.{IsFault}
+use Rattle.translation.specs.declared.Translation.{Translation}
+use Rattle.translation.specs.declared.Translation.the-variants.{Physical, TlbMiss, TlbWrite, TlbInvalid, IllegalAddress, PrivilegedAddress}
+use Rattle.transfer.proofs.Faults.{IsFault}
 use Rattle.runs.specs.Refusal.{ramAccepted}
 use Rattle.view.specs.View.{lookedUp, inRam, hasFrame, viewRefusal, viewOffset, viewLength}
 

@@ -14,11 +14,11 @@ use Rattle.memory.specs.declared.Place.the-variants.{Ram}
 use Rattle.memory.specs.declared.Loaded.the-variants as loaded
 use Rattle.memory.proofs.Places.{true-within, locate-ram, place-by}
 use Rattle.memory.proofs.Outcomes.{load-at}
-use Rattle.processor.specs.Psw.{userMode}
+use Rattle.status.specs.Psw.{userMode}
 use Rattle.processor.specs.declared.Processor.{Processor}
 use Rattle.instructions.specs.Operands.{surroundings}
-use Rattle.instructions.specs.Transfer.{answered, readThrough, readFrom}
-use Rattle.instructions.specs.declared.transfer.Read.the-variants.{Value, Fault}
+use Rattle.transfer.specs.Transfer.{answered, readThrough, readFrom}
+use Rattle.transfer.specs.declared.Read.the-variants.{Value, Fault}
 use Rattle.view.specs.View.{viewRefusal, viewOffset, viewPart}
 use Rattle.view.proofs.Lookup.{frame-byte}
 use Rattle.view.proofs.Frame.{first-byte, whole, part-is}

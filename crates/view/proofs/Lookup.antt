@@ -9,12 +9,12 @@ use lib.Dec.{leb, ltb}
 use lib.ListN.{getD}
 use borrow.Author.Tests.{eq-eqb, leb-true}
 use Rattle.words.proofs.Cases.{same-leb}
-use Rattle.processor.specs.Psw.{userMode, userCurrent}
+use Rattle.status.specs.Psw.{userMode, userCurrent}
 use Rattle.processor.specs.Tlb.{lookup}
-use Rattle.processor.specs.Translation.{frameOf, valid, through, mapped, forbidden, translated}
+use Rattle.translation.specs.Translation.{frameOf, valid, through, mapped, forbidden, translated}
 use Rattle.processor.specs.declared.Processor.{Processor}
-use Rattle.processor.specs.declared.translation.Translation.{Translation}
-use Rattle.processor.specs.declared.translation.Translation.the-variants.{Physical, TlbMiss, TlbInvalid}
+use Rattle.translation.specs.declared.Translation.{Translation}
+use Rattle.translation.specs.declared.Translation.the-variants.{Physical, TlbMiss, TlbInvalid}
 use Rattle.view.specs.View.{kernelMode, lookedUp, offsetOf}
 use Rattle.view.proofs.Answers.{second-false}
 

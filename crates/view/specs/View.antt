@@ -6,10 +6,10 @@ use lib.Dec.{leb, ltb, eqb}
 use lib.ListN.{length, take, drop}
 use Rattle.words.specs.Logic.{both}
 use Rattle.processor.specs.State.{fit}
-use Rattle.processor.specs.Translation.{translated}
+use Rattle.translation.specs.Translation.{translated}
 use Rattle.processor.specs.declared.Processor.{Processor}
-use Rattle.processor.specs.declared.translation.Translation.{Translation}
-use Rattle.processor.specs.declared.translation.Translation.the-variants.{Physical, TlbMiss, TlbWrite, TlbInvalid, IllegalAddress, PrivilegedAddress}
+use Rattle.translation.specs.declared.Translation.{Translation}
+use Rattle.translation.specs.declared.Translation.the-variants.{Physical, TlbMiss, TlbWrite, TlbInvalid, IllegalAddress, PrivilegedAddress}
 use Rattle.runs.specs.Refusal.{ramAccepted, check}
 
 -- ---- the lookup: "a Kernel Mode load of its first byte"

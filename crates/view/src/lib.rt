@@ -1,9 +1,9 @@
 // The page view: the part of the lent RAM behind a virtual page (document 01, "Runs and views").
 use processor::Processor;
-use processor::translation;
-use processor::translation::Translation;
-use processor::translation::Width;
 use runs::refusal;
+use translation;
+use translation::Translation;
+use translation::Width;
 ghost use mathlib.Core.Path.{_≡_};
 ghost use Rattle.view.specs.View.{viewRefusal, viewOffset, viewLength, viewPart, partPtr};
 

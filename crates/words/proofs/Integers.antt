@@ -3,12 +3,11 @@ use mathlib.Core.Path.{_≡_, refl, ap, sym, _∙_}
 use mathlib.Core.Bool.{Bool, true, false}
 use Prim.Native.Nat.{ℕ, zero, suc, _+_, _*_, _-_, _/_, _%_, _^_, _≤_, _<_}
 use native.Mathlib.Omega.{arith}
-use lib.IntN.{ℤ, pos, negsuc, negℤ, natAbs, subℕ}
+use lib.IntN.{ℤ, pos, negsuc, subℕ}
 use lib.Dec.{ltb}
 use borrow.Author.Tests.{lt-ltb, le-ltb}
 use Rattle.words.proofs.Cases.{below-or-not}
 use Rattle.words.specs.Numbers.{bit, truncate, signed, wordOf}
-use Rattle.words.specs.Computation.{difference}
 
 pub sub-pos : (a b : ℕ) → b ≤ a → subℕ a b ≡ pos (a - b)
 sub-pos a b h = simp (le-ltb a b h)
@@ -29,12 +28,6 @@ unfolding signed bit
 signed-high n h k =
     let high : n / 2147483648 % 2 * 2147483648 - suc (n % 2147483648) ≡ 4294967295 - n = omega arith in
     sub-neg (n % 2147483648) (n / 2147483648 % 2 * 2147483648) (omega arith) ∙ ap negsuc high
-
--- the word of an integer below 0 makes 0 with the integer's opposite
-pub word-negated : (n : ℕ) → n ≤ 2 ^ 32 → wordOf (negℤ (pos n)) ≡ difference 0 n
-unfolding wordOf difference truncate
-word-negated zero h = refl
-word-negated (suc n) h = omega arith
 
 pub word-pos : (n : ℕ) → n < 2 ^ 32 → wordOf (pos n) ≡ n
 unfolding wordOf
@@ -67,16 +60,3 @@ pub signed-word-negative : (n : ℕ) → n < 2 ^ 31 → signed 32 (wordOf (negsu
 signed-word-negative n h =
     let back : 4294967295 - (4294967295 - n) ≡ n = omega arith in
     ap (signed 32) (word-negsuc n (omega arith)) ∙ signed-high (4294967295 - n) (omega arith) (omega arith) ∙ ap negsuc back
-
--- what a wrapping subtraction ensures is the difference
-pub is-difference : (r a b : ℕ) → r < 2 ^ 32 → b < 2 ^ 32 → (r + b) % 2 ^ 32 ≡ a → r ≡ difference a b
-unfolding difference truncate
-is-difference r a b hr hb e = omega arith
-
--- and the difference is that of the integers
-pub difference-of-integers : (x y : ℕ) → x < 2 ^ 32 → y < 2 ^ 32 → difference x y ≡ wordOf (subℕ x y)
-unfolding difference truncate
-difference-of-integers x y hx hy =
-    below-or-not x y
-    (λ h. rw (sub-neg x y h, word-negsuc (y - suc x) (omega arith)) (omega arith))
-    (λ h. rw (sub-pos x y h, word-pos (x - y) (omega arith)) (omega arith))

@@ -2,11 +2,3 @@
 pub mod Cases
 pub mod Integers
 pub mod SignExtension
-pub mod Product
-pub mod IntegerDivision
-pub mod Division
-pub mod Shifts
-pub mod BitLaws
-pub mod Sizes
-pub mod Orders
-pub mod Examples

@@ -1,7 +1,11 @@
--- `machine::system` meets its contract, by its definition.
+-- `machine::system` meets its contract, by the laws of Systems.
+use mathlib.Core.Path.{ap₂, _∙_}
+use Rattle.processor.specs.Register.{written, specialWritten}
+use Rattle.processor.specs.Tlb.{searched, randomWritten, entryRead, indexedWritten}
+use Rattle.processor.specs.declared.Processor.{Processor}
+use Rattle.machine.proofs.Systems.{moved, last}
 use Prim.Native.Nat.{ℕ}
 use borrow.Author.Needs.{needs}
-use borrow.Author.Tests.{ne-eqb}
 use Rattle.machine.specs.Step.{systemDone}
 use Rattle.instructions.proofs.Arms.{arm}
 use Rattle.machine.proofs.system.Statement.{statement}
@@ -51,31 +55,30 @@ write-indexed-requires c κs = search needs
 
 returns : tie.Need-returns
 unfolding systemDone
-returns c = arm (λ (n : ℕ). systemDone n (c .before .before .before .args .z) (c .before .before .before .args .v) (c .before .before .before .args .p)) (c .before .match .keys1) (cc)
+returns c = arm (λ (n : ℕ). systemDone n (c .before .before .before .args .z) (c .before .before .before .args .v) (c .before .before .before .args .p)) (c .before .match .keys1) (c .leave .ensures)
 
 returns-2 : tie.Need-returns-2
 unfolding systemDone
-returns-2 c = arm (λ (n : ℕ). systemDone n (c .before .before .before .before .args .z) (c .before .before .before .before .args .v) (c .before .before .before .before .args .p)) (c .before .before .match .keys2) (cc)
+returns-2 c = arm (λ (n : ℕ). systemDone n (c .before .before .before .before .args .z) (c .before .before .before .before .args .v) (c .before .before .before .before .args .p)) (c .before .before .match .keys2) (c .write .ensures ∙ ap₂ (written (c .before .before .before .before .args .p) (c .before .before .before .before .args .v)) (c .before .special .ensures) (c .before .before .before .add .ensures))
 
 returns-3 : tie.Need-returns-3
 unfolding systemDone
-returns-3 c = arm (λ (n : ℕ). systemDone n (c .before .before .before .before .args .z) (c .before .before .before .before .args .v) (c .before .before .before .before .args .p)) (c .before .before .match .keys3) (cc)
+returns-3 c = arm (λ (n : ℕ). systemDone n (c .before .before .before .before .args .z) (c .before .before .before .before .args .v) (c .before .before .before .before .args .p)) (c .before .before .match .keys3) (moved (λ (q : Processor). specialWritten q (c .before .before .before .before .args .z) (c .before .before .before .before .args .v)) (c .before .before .before .before .args .p) (c .before .before .before .add .ensures) (c .before .jump .ensures) (c .write-special .ensures))
 
 returns-4 : tie.Need-returns-4
 unfolding systemDone
-returns-4 c = arm (λ (n : ℕ). systemDone n (c .before .before .before .before .args .z) (c .before .before .before .before .args .v) (c .before .before .before .before .args .p)) (c .before .before .match .keys4) (cc)
+returns-4 c = arm (λ (n : ℕ). systemDone n (c .before .before .before .before .args .z) (c .before .before .before .before .args .v) (c .before .before .before .before .args .p)) (c .before .before .match .keys4) (moved searched (c .before .before .before .before .args .p) (c .before .before .before .add .ensures) (c .before .jump2 .ensures) (c .search .ensures))
 
 returns-5 : tie.Need-returns-5
 unfolding systemDone
-returns-5 c = arm (λ (n : ℕ). systemDone n (c .before .before .before .before .args .z) (c .before .before .before .before .args .v) (c .before .before .before .before .args .p)) (c .before .before .match .keys5) (cc)
+returns-5 c = arm (λ (n : ℕ). systemDone n (c .before .before .before .before .args .z) (c .before .before .before .before .args .v) (c .before .before .before .before .args .p)) (c .before .before .match .keys5) (moved randomWritten (c .before .before .before .before .args .p) (c .before .before .before .add .ensures) (c .before .jump3 .ensures) (c .write-random .ensures))
 
 returns-6 : tie.Need-returns-6
 unfolding systemDone
-returns-6 c = arm (λ (n : ℕ). systemDone n (c .before .before .before .before .args .z) (c .before .before .before .before .args .v) (c .before .before .before .before .args .p)) (c .before .before .match .keys6) (cc)
+returns-6 c = arm (λ (n : ℕ). systemDone n (c .before .before .before .before .args .z) (c .before .before .before .before .args .v) (c .before .before .before .before .args .p)) (c .before .before .match .keys6) (moved entryRead (c .before .before .before .before .args .p) (c .before .before .before .add .ensures) (c .before .jump4 .ensures) (c .read-indexed .ensures))
 
 returns-7 : tie.Need-returns-7
-unfolding systemDone
-returns-7 c = simp (ne-eqb _ _ (c .before .before .match .rest .0 .0 .0 .0 .0 .1), ne-eqb _ _ (c .before .before .match .rest .0 .0 .0 .0 .1), ne-eqb _ _ (c .before .before .match .rest .0 .0 .0 .1), ne-eqb _ _ (c .before .before .match .rest .0 .0 .1), ne-eqb _ _ (c .before .before .match .rest .0 .1), ne-eqb _ _ (c .before .before .match .rest .1)) (cc)
+returns-7 c = moved indexedWritten (c .before .before .before .before .args .p) (c .before .before .before .add .ensures) (c .before .jump5 .ensures) (c .write-indexed .ensures) ∙ last _ (c .before .before .before .before .args .z) (c .before .before .before .before .args .v) (c .before .before .before .before .args .p) (c .before .before .match .rest .0 .0 .0 .0 .0 .1) (c .before .before .match .rest .0 .0 .0 .0 .1) (c .before .before .match .rest .0 .0 .0 .1) (c .before .before .match .rest .0 .0 .1) (c .before .before .match .rest .0 .1) (c .before .before .match .rest .1)
 
 pub system-spec : {M : Type 1} → statement M
 system-spec =

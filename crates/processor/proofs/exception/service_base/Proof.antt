@@ -1,7 +1,7 @@
 -- `processor::exception::service_base` meets its contract, by its definition.
 use borrow.Author.Tests.{eq-eqb, ne-eqb}
 use Rattle.processor.specs.Exception.{serviceBase}
-use Rattle.processor.specs.Psw.{vector}
+use Rattle.status.specs.Psw.{vector}
 use Rattle.processor.proofs.exception.service_base.Statement.{statement}
 use Rattle.processor.proofs.exception.service_base.Tie as tie
 

@@ -1,0 +1,3 @@
+-- The laws of `comparison`, in the order to read them.
+pub mod Orders
+pub mod Examples

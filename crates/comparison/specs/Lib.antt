@@ -1,0 +1,2 @@
+-- The definitions of `comparison`.
+pub mod Comparison

@@ -1,0 +1,56 @@
+-- Worked values, by computation: document 01's cases that need words alone, and quotients of each pair of signs.
+use mathlib.Core.Path.{_≡_, refl}
+use Rattle.words.specs.Numbers.{bit, truncate, signed, wordOf}
+use Rattle.computation.specs.Computation.{sum, signedQuotient, signedRemainder, shiftArithmetic}
+
+pub sum-wraps : sum 0xFFFFFFFF 1 ≡ 0
+unfolding sum truncate
+sum-wraps = refl
+
+pub quotient-of-the-least : signedQuotient 0x80000000 0xFFFFFFFF ≡ 0x80000000
+unfolding signedQuotient signed bit wordOf
+quotient-of-the-least = refl
+
+pub remainder-of-the-least : signedRemainder 0x80000000 0xFFFFFFFF ≡ 0
+unfolding signedRemainder signed bit wordOf
+remainder-of-the-least = refl
+
+-- 7 by 2: 3, remainder 1
+pub quotient-of-naturals : signedQuotient 7 2 ≡ 3
+unfolding signedQuotient signed bit wordOf
+quotient-of-naturals = refl
+
+pub remainder-of-naturals : signedRemainder 7 2 ≡ 1
+unfolding signedRemainder signed bit wordOf
+remainder-of-naturals = refl
+
+-- -7 by 2: -3, remainder -1
+pub quotient-toward-zero : signedQuotient 0xFFFFFFF9 2 ≡ 0xFFFFFFFD
+unfolding signedQuotient signed bit wordOf
+quotient-toward-zero = refl
+
+pub remainder-as-the-dividend : signedRemainder 0xFFFFFFF9 2 ≡ 0xFFFFFFFF
+unfolding signedRemainder signed bit wordOf
+remainder-as-the-dividend = refl
+
+-- 7 by -2: -3, remainder 1
+pub quotient-by-a-negative : signedQuotient 7 0xFFFFFFFE ≡ 0xFFFFFFFD
+unfolding signedQuotient signed bit wordOf
+quotient-by-a-negative = refl
+
+pub remainder-by-a-negative : signedRemainder 7 0xFFFFFFFE ≡ 1
+unfolding signedRemainder signed bit wordOf
+remainder-by-a-negative = refl
+
+-- -7 by -2: 3, remainder -1
+pub quotient-of-negatives : signedQuotient 0xFFFFFFF9 0xFFFFFFFE ≡ 3
+unfolding signedQuotient signed bit wordOf
+quotient-of-negatives = refl
+
+pub remainder-of-negatives : signedRemainder 0xFFFFFFF9 0xFFFFFFFE ≡ 0xFFFFFFFF
+unfolding signedRemainder signed bit wordOf
+remainder-of-negatives = refl
+
+pub arithmetic-shift-by-33 : shiftArithmetic 0x80000000 33 ≡ 0xC0000000
+unfolding shiftArithmetic signed bit wordOf
+arithmetic-shift-by-33 = refl

@@ -1,0 +1,32 @@
+-- `computation::remainder_signed` meets its contract, by the laws of Division.
+use borrow.Author.Needs.{needs}
+use Rattle.computation.specs.Computation.{unsignedRemainder}
+use Rattle.computation.proofs.Division.{remainder-by-magnitudes}
+use Rattle.computation.proofs.remainder_signed.Statement.{statement}
+use Rattle.computation.proofs.remainder_signed.Tie as tie
+
+magnitude-requires : tie.Need-magnitude-requires
+magnitude-requires c κs = search needs
+
+magnitude-requires-2 : tie.Need-magnitude-requires-2
+magnitude-requires-2 c κs = search needs
+
+remainder-unsigned-requires : tie.Need-remainder-unsigned-requires
+remainder-unsigned-requires c κs = search needs
+
+with-sign-requires : tie.Need-with-sign-requires
+with-sign-requires c κs = search needs
+
+returns : tie.Need-returns
+unfolding unsignedRemainder
+returns c = cc (remainder-by-magnitudes (c .before .before .before .before .args .x) (c .before .before .before .before .args .y) (c .before .before .before .before .fits .x .fits) (c .before .before .before .before .fits .y .fits))
+
+pub remainder-signed-spec : {M : Type 1} → statement M
+remainder-signed-spec =
+    tie.close
+    (tie.spec
+    magnitude-requires
+    magnitude-requires-2
+    remainder-unsigned-requires
+    with-sign-requires
+    returns)

@@ -1,0 +1,37 @@
+-- `computation::shift_arithmetic` meets its contract, by the laws of Shifts.
+use borrow.Author.Needs.{needs}
+use Rattle.computation.specs.Computation.{shiftRight}
+use Rattle.computation.proofs.Shifts.{arithmetic-low, arithmetic-high}
+use Rattle.computation.proofs.shift_arithmetic.Statement.{statement}
+use Rattle.computation.proofs.shift_arithmetic.Tie as tie
+
+shift-right-requires : tie.Need-shift-right-requires
+shift-right-requires c κs = search needs
+
+sub-shift-right : tie.Need-sub-shift-right
+sub-shift-right c = search needs
+
+shift-right-requires-2 : tie.Need-shift-right-requires-2
+shift-right-requires-2 c κs = search needs
+
+sub-result : tie.Need-sub-result
+sub-result c = search needs
+
+returns : tie.Need-returns
+unfolding shiftRight
+returns c = cc (arithmetic-low (c .before .before .args .x) (c .before .before .args .y) (c .before .if1 .taken))
+
+returns-2 : tie.Need-returns-2
+unfolding shiftRight
+returns-2 c = cc (arithmetic-high (c .before .before .args .x) (c .before .before .args .y) (c .before .if1 .left) (c .before .before .fits .x .fits))
+
+pub shift-arithmetic-spec : {M : Type 1} → statement M
+shift-arithmetic-spec =
+    tie.close
+    (tie.spec
+    shift-right-requires
+    sub-shift-right
+    shift-right-requires-2
+    sub-result
+    returns
+    returns-2)

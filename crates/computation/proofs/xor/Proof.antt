@@ -1,0 +1,12 @@
+-- `computation::xor` meets its contract, by its definition.
+use borrow.Author.Needs.{needs}
+use Rattle.computation.specs.Computation.{xor}
+use Rattle.computation.proofs.xor.Statement.{statement}
+use Rattle.computation.proofs.xor.Tie as tie
+
+returns : tie.Need-returns
+unfolding xor
+returns c = search needs
+
+pub xor-spec : {M : Type 1} → statement M
+xor-spec = tie.close (tie.spec returns)

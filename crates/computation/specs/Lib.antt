@@ -1,0 +1,2 @@
+-- The definitions of `computation`.
+pub mod Computation

@@ -1,0 +1,2 @@
+-- The laws of `compute`.
+pub mod Arms

@@ -1,0 +1,2 @@
+-- The definitions of `compute`.
+pub mod Compute

@@ -1,0 +1,103 @@
+// The computation instructions (manual, 3.3).
+use instructions::Action;
+use processor::Processor;
+use words::extension;
+ghost use mathlib.Core.Path.{_≡_};
+ghost use Prim.Native.Nat.{_≤_};
+ghost use lib.ListN.{getD};
+ghost use Rattle.computation.specs.Computation.{signedQuotient, unsignedQuotient, signedRemainder, unsignedRemainder};
+ghost use Rattle.instructions.specs.Operands.{operands, illegal};
+ghost use Rattle.compute.specs.Compute.{unlessZero, computations};
+
+fn quotient_signed(number: u32, x: u32, y: u32, next: u32) -> Action
+    ensures { λ r. ⌜ r ≡ unlessZero y (Action.Write number (signedQuotient x y) next) ⌝ }
+{
+    if y == 0 {
+        return Action::Exception(Processor::DIVISION_BY_ZERO, 0, 0);
+    }
+    Action::Write(number, computation::divide_signed(x, y), next)
+}
+
+fn quotient_unsigned(number: u32, x: u32, y: u32, next: u32) -> Action
+    ensures { λ r. ⌜ r ≡ unlessZero y (Action.Write number (unsignedQuotient x y) next) ⌝ }
+{
+    if y == 0 {
+        return Action::Exception(Processor::DIVISION_BY_ZERO, 0, 0);
+    }
+    Action::Write(number, computation::divide_unsigned(x, y), next)
+}
+
+fn remaining_signed(number: u32, x: u32, y: u32, next: u32) -> Action
+    ensures { λ r. ⌜ r ≡ unlessZero y (Action.Write number (signedRemainder x y) next) ⌝ }
+{
+    if y == 0 {
+        return Action::Exception(Processor::DIVISION_BY_ZERO, 0, 0);
+    }
+    Action::Write(number, computation::remainder_signed(x, y), next)
+}
+
+fn remaining_unsigned(number: u32, x: u32, y: u32, next: u32) -> Action
+    ensures { λ r. ⌜ r ≡ unlessZero y (Action.Write number (unsignedRemainder x y) next) ⌝ }
+{
+    if y == 0 {
+        return Action::Exception(Processor::DIVISION_BY_ZERO, 0, 0);
+    }
+    Action::Write(number, computation::remainder_unsigned(x, y), next)
+}
+
+// Opcodes 00 to 1F. x and y are the registers of bits 25..21 and 20..16.
+pub fn arithmetic(opcode: u32, x: u32, y: u32, word: u32, next: u32) -> Action
+    ensures { λ r. ⌜ r ≡ getD computations opcode illegal (operands x y word next) ⌝ }
+{
+    let r = word / 0x800 % 32;
+    let n = word / 0x1_0000 % 32;
+    let s = extension::sign_extend_16(word);
+    let z = extension::zero_extend_16(word);
+    match opcode {
+        0x00 => Action::Write(r, computation::add(x, y), next),
+        0x01 => Action::Write(n, computation::add(x, s), next),
+        0x02 => Action::Write(r, computation::subtract(x, y), next),
+        0x03 => Action::Write(n, computation::subtract(x, s), next),
+        0x04 => Action::Write(r, computation::multiply(x, y), next),
+        0x05 => Action::Write(n, computation::multiply(x, s), next),
+        0x06 => Action::Write(r, computation::multiply(x, y), next),
+        0x07 => Action::Write(n, computation::multiply(x, z), next),
+        0x08 => quotient_signed(r, x, y, next),
+        0x09 => quotient_signed(n, x, s, next),
+        0x0A => quotient_unsigned(r, x, y, next),
+        0x0B => quotient_unsigned(n, x, z, next),
+        0x0C => remaining_signed(r, x, y, next),
+        0x0D => remaining_signed(n, x, s, next),
+        0x0E => remaining_unsigned(r, x, y, next),
+        0x0F => remaining_unsigned(n, x, z, next),
+        _ => logic(opcode, x, y, word, next),
+    }
+}
+
+// Opcodes 10 to 1F.
+fn logic(opcode: u32, x: u32, y: u32, word: u32, next: u32) -> Action
+    requires { ⌜ 16 ≤ opcode ⌝ }
+    ensures { λ r. ⌜ r ≡ getD computations opcode illegal (operands x y word next) ⌝ }
+{
+    let r = word / 0x800 % 32;
+    let n = word / 0x1_0000 % 32;
+    let z = extension::zero_extend_16(word);
+    match opcode {
+        0x10 => Action::Write(r, computation::and(x, y), next),
+        0x11 => Action::Write(n, computation::and(x, z), next),
+        0x12 => Action::Write(r, computation::or(x, y), next),
+        0x13 => Action::Write(n, computation::or(x, z), next),
+        0x14 => Action::Write(r, computation::xor(x, y), next),
+        0x15 => Action::Write(n, computation::xor(x, z), next),
+        0x16 => Action::Write(r, computation::xnor(x, y), next),
+        0x17 => Action::Write(n, computation::xnor(x, z), next),
+        0x18 => Action::Write(r, computation::shift_left(x, y), next),
+        0x19 => Action::Write(n, computation::shift_left(x, z), next),
+        0x1A => Action::Write(r, computation::shift_right(x, y), next),
+        0x1B => Action::Write(n, computation::shift_right(x, z), next),
+        0x1C => Action::Write(r, computation::shift_arithmetic(x, y), next),
+        0x1D => Action::Write(n, computation::shift_arithmetic(x, z), next),
+        0x1F => Action::Write(n, computation::load_high(word), next),
+        _ => Action::Exception(Processor::ILLEGAL_INSTRUCTION, 0, 0),
+    }
+}

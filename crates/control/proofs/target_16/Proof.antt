@@ -1,0 +1,21 @@
+-- `control::target_16` meets its contract, by the laws of Targets.
+use borrow.Author.Needs.{needs}
+use Rattle.control.proofs.Targets.{target-by-shift}
+use Rattle.control.proofs.target_16.Statement.{statement}
+use Rattle.control.proofs.target_16.Tie as tie
+
+sign-extend-16-requires : tie.Need-sign-extend-16-requires
+sign-extend-16-requires c κs = search needs
+
+shift-left-requires : tie.Need-shift-left-requires
+shift-left-requires c κs = search needs
+
+add-requires : tie.Need-add-requires
+add-requires c κs = search needs
+
+returns : tie.Need-returns
+returns c = cc (target-by-shift 16 (c .before .before .before .args .word) (c .before .before .before .args .next))
+
+pub target-16-spec : {M : Type 1} → statement M
+target-16-spec =
+    tie.close (tie.spec sign-extend-16-requires shift-left-requires add-requires returns)

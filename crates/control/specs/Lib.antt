@@ -1,0 +1,2 @@
+-- The definitions of `control`.
+pub mod Control

@@ -1,0 +1,2 @@
+-- The definitions of `decode`.
+pub mod Table

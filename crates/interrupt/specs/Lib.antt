@@ -1,0 +1,2 @@
+-- The definitions of `interrupt`.
+pub mod Interrupt

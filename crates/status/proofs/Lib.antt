@@ -1,0 +1,2 @@
+-- The laws of `status`.
+pub mod PswLaws

@@ -1,0 +1,2 @@
+-- The definitions of `status`.
+pub mod Psw

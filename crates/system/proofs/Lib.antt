@@ -1,0 +1,2 @@
+-- The laws of `system`.
+pub mod Arms

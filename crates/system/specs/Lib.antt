@@ -1,0 +1,2 @@
+-- The definitions of `system`.
+pub mod System

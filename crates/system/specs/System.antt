@@ -1,0 +1,57 @@
+-- The system instructions (manual, 3.6), a clause for each, and their opcodes 2E, 2F and 38 to 3D. RFX, MVFS, MVTS and the TLB instructions
+-- touch more of the processor than the look reads: they are named by their opcodes, and the step does them.
+use mathlib.Core.Bool.{cond}
+use mathlib.Core.List.{List, [], _∷_}
+use Prim.Native.Nat.{ℕ, _%_, _^_}
+use Rattle.status.specs.Psw.{userMode}
+use Rattle.instructions.specs.Operands.{fieldY, fault}
+use Rattle.instructions.specs.declared.Action.{Action}
+use Rattle.instructions.specs.declared.Action.the-variants.{System}
+
+-- in User Mode a privileged instruction faults (18)
+unfoldable pub privileged : ℕ → Action → Action
+privileged psw action = cond (userMode psw) (fault 18) action
+
+-- bits 15..0: all of them count as a special register's number
+abbrev pub numberZ : ℕ → ℕ
+numberZ word = word % 2 ^ 16
+
+-- what they read: the PSW, the register of bits 20..16, and the instruction word
+abbrev pub SystemMeaning : Type 0
+SystemMeaning = ℕ → ℕ → ℕ → Action
+
+-- 3.6.1 to 3.6.8
+abbrev pub TRAP : SystemMeaning
+TRAP psw y word = fault 20
+
+abbrev pub RFX : SystemMeaning
+RFX psw y word = privileged psw (System 0x2F 0 0)
+
+abbrev pub MVFS : SystemMeaning
+MVFS psw y word = privileged psw (System 0x38 (numberZ word) (fieldY word))
+
+abbrev pub MVTS : SystemMeaning
+MVTS psw y word = privileged psw (System 0x39 (numberZ word) y)
+
+abbrev pub TBS : SystemMeaning
+TBS psw y word = privileged psw (System 0x3A 0 0)
+
+abbrev pub TBWR : SystemMeaning
+TBWR psw y word = privileged psw (System 0x3B 0 0)
+
+abbrev pub TBRI : SystemMeaning
+TBRI psw y word = privileged psw (System 0x3C 0 0)
+
+abbrev pub TBWI : SystemMeaning
+TBWI psw y word = privileged psw (System 0x3D 0 0)
+
+abbrev pub illegalSystem : SystemMeaning
+illegalSystem psw y word = fault 17
+
+-- opcodes 2E and 2F
+unfoldable pub traps : List SystemMeaning
+traps = TRAP ∷ RFX ∷ []
+
+-- opcodes 38 to 3D
+unfoldable pub systems : List SystemMeaning
+systems = MVFS ∷ MVTS ∷ TBS ∷ TBWR ∷ TBRI ∷ TBWI ∷ []

@@ -1,0 +1,72 @@
+-- A translation that is no physical address comes to its fault, in a read and in a store; and what each place of a store comes to.
+use mathlib.Core.Path.{_≡_, refl, ap, sym, _∙_}
+use mathlib.Core.Logic.{⊎-elim}
+use mathlib.Core.List.{List, [], _∷_}
+use Prim.Native.Nat.{ℕ}
+use native.Mathlib.Omega.{arith}
+use types.Run.{OneOf}
+use denote.Enum.Declared.{tagOf}
+use Rattle.translation.proofs.Translation as T
+use Rattle.translation.specs.Translation.{translationEid}
+use Rattle.translation.specs.declared.Translation.{Translation}
+use Rattle.translation.specs.declared.Translation.the-variants.{Physical, TlbMiss, TlbWrite, TlbInvalid, IllegalAddress, PrivilegedAddress}
+use Rattle.memory.specs.Map.{Memory, placeIn}
+use Rattle.memory.specs.Access.{storeAnswer, completes}
+use Rattle.memory.specs.declared.Place.{Place}
+use Rattle.memory.specs.declared.Stored.the-variants as stored
+use Rattle.memory.proofs.Outcomes.{answer-at}
+use Rattle.transfer.specs.Transfer.{readThrough, readFrom, landed, settled, storeThrough}
+use Rattle.instructions.specs.Operands.{Surroundings}
+use Rattle.instructions.specs.declared.Action.{Action}
+use Rattle.instructions.specs.declared.Action.the-variants.{Store, Exception}
+use Rattle.transfer.specs.declared.Read.{Read}
+use Rattle.transfer.specs.declared.Read.the-variants.{Fault}
+
+-- the tag of a variant that is none of the faults
+abbrev pub IsFault : Translation → Type 0
+IsFault t = OneOf (1 ∷ 2 ∷ 3 ∷ 4 ∷ 5 ∷ []) (tagOf T.the-type t)
+
+not-physical : (x : ℕ) → IsFault (Physical x) → ⊥
+not-physical x h =
+    ⊎-elim (λ e. omega arith) (⊎-elim (λ e. omega arith) (⊎-elim (λ e. omega arith) (⊎-elim (λ e. omega arith) (λ e. omega arith)))) h
+
+pub read-fault : (width : ℕ) (m : Memory) (t : Translation) → IsFault t → Fault (translationEid t) ≡ readThrough width m t
+read-fault width m (Physical x) h = absurd (not-physical x h)
+read-fault width m TlbMiss h = refl
+read-fault width m TlbWrite h = refl
+read-fault width m TlbInvalid h = refl
+read-fault width m IllegalAddress h = refl
+read-fault width m PrivilegedAddress h = refl
+
+pub store-fault : (width : ℕ) (m : Memory) (value address : ℕ) (t : Translation) → IsFault t
+    → Exception (translationEid t) address 0 ≡ storeThrough width m value address t
+store-fault width m value address (Physical x) h = absurd (not-physical x h)
+store-fault width m value address TlbMiss h = refl
+store-fault width m value address TlbWrite h = refl
+store-fault width m value address TlbInvalid h = refl
+store-fault width m value address IllegalAddress h = refl
+store-fault width m value address PrivilegedAddress h = refl
+
+-- ---- a store that is granted, by the place of its physical address
+
+module _ (width : ℕ) (m : Memory) (value address physical : ℕ) (t : Translation) (p : Place) (bytes : ℕ) (same : bytes ≡ width)
+    (granted : t ≡ Physical physical) (place : placeIn bytes m physical ≡ p) where
+  answer-of : storeAnswer width m physical ≡ completes p
+  answer-of = ap (λ (n : ℕ). storeAnswer n m physical) (sym same) ∙ answer-at bytes m physical p place
+
+  pub store-done : completes p ≡ stored.Done → Store bytes physical value ≡ storeThrough width m value address t
+  store-done done =
+      ap (λ (n : ℕ). Store n physical value) same
+      ∙ sym (ap (storeThrough width m value address) granted ∙ ap (settled width physical value address) (answer-of ∙ done))
+
+  pub store-timeout : completes p ≡ stored.Timeout → Exception 16 address 0 ≡ storeThrough width m value address t
+  store-timeout out =
+      sym (ap (storeThrough width m value address) granted ∙ ap (settled width physical value address) (answer-of ∙ out))
+
+-- ---- a load and a store at the address that the code computed
+
+pub lands : (extend : ℕ → ℕ) (number next width : ℕ) (s : Surroundings) (a b : ℕ) (r : Read) {action : Action}
+    → action ≡ landed extend number a next r → r ≡ readFrom width s a → a ≡ b
+    → action ≡ landed extend number b next (readFrom width s b)
+lands extend number next width s a b r h k e =
+    h ∙ ap (landed extend number a next) k ∙ ap (λ (n : ℕ). landed extend number n next (readFrom width s n)) e

@@ -1,0 +1,57 @@
+-- `transfer::extend` meets its contract, by the laws of Arms.
+use mathlib.Core.Path.{_∙_}
+use Prim.Native.Nat.{ℕ}
+use lib.ListN.{getD}
+use borrow.Author.Needs.{needs}
+use Rattle.transfer.specs.Transfer.{extensions}
+use Rattle.instructions.proofs.Arms.{arm}
+use Rattle.transfer.proofs.Arms.{extension-last}
+use Rattle.words.specs.Numbers.{zeroExtend}
+use Rattle.transfer.proofs.extend.Statement.{statement}
+use Rattle.transfer.proofs.extend.Tie as tie
+
+sign-extend-16-requires : tie.Need-sign-extend-16-requires
+sign-extend-16-requires c κs = search needs
+
+zero-extend-16-requires : tie.Need-zero-extend-16-requires
+zero-extend-16-requires c κs = search needs
+
+sign-extend-8-requires : tie.Need-sign-extend-8-requires
+sign-extend-8-requires c κs = search needs
+
+zero-extend-8-requires : tie.Need-zero-extend-8-requires
+zero-extend-8-requires c κs = search needs
+
+returns : tie.Need-returns
+unfolding extensions
+returns c = arm (λ (n : ℕ). getD extensions n (zeroExtend 8) (c .before .args .v)) (c .match .keys1) (cc)
+
+returns-2 : tie.Need-returns-2
+unfolding extensions
+returns-2 c = arm (λ (n : ℕ). getD extensions n (zeroExtend 8) (c .before .before .args .v)) (c .before .match .keys2) (cc)
+
+returns-3 : tie.Need-returns-3
+unfolding extensions
+returns-3 c = arm (λ (n : ℕ). getD extensions n (zeroExtend 8) (c .before .before .args .v)) (c .before .match .keys3) (cc)
+
+returns-4 : tie.Need-returns-4
+unfolding extensions
+returns-4 c = arm (λ (n : ℕ). getD extensions n (zeroExtend 8) (c .before .before .args .v)) (c .before .match .keys4) (cc)
+
+returns-5 : tie.Need-returns-5
+unfolding extensions
+returns-5 c = c .zero-extend-8 .ensures ∙ extension-last (c .before .before .args .kind) (c .before .before .args .v) (c .before .match .rest)
+
+pub extend-spec : {M : Type 1} → statement M
+extend-spec =
+    tie.close
+    (tie.spec
+    sign-extend-16-requires
+    zero-extend-16-requires
+    sign-extend-8-requires
+    zero-extend-8-requires
+    returns
+    returns-2
+    returns-3
+    returns-4
+    returns-5)

@@ -1,0 +1,2 @@
+-- The definitions of `transfer`.
+pub mod Transfer

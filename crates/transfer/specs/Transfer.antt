@@ -1,0 +1,106 @@
+-- Fetch, loads and stores (manual, 3.2 and 3.5), a clause for each instruction, and their opcodes 30 to 37.
+use mathlib.Core.Bool.{true, false}
+use mathlib.Core.List.{List, [], _∷_}
+use Prim.Native.Nat.{ℕ}
+use Rattle.words.specs.Numbers.{zeroExtend, signExtend}
+use Rattle.computation.specs.Computation.{sum}
+use Rattle.translation.specs.Translation.{translated, translationEid}
+use Rattle.translation.specs.declared.Translation.{Translation}
+use Rattle.translation.specs.declared.Translation.the-variants.{Physical, TlbMiss, TlbWrite, TlbInvalid, IllegalAddress, PrivilegedAddress}
+use Rattle.memory.specs.Map.{Memory}
+use Rattle.memory.specs.Access.{loadOf, loadedEid, storeAnswer, storedEid}
+use Rattle.memory.specs.declared.Loaded.{Loaded}
+use Rattle.memory.specs.declared.Loaded.the-variants as loaded
+use Rattle.memory.specs.declared.Stored.{Stored}
+use Rattle.memory.specs.declared.Stored.the-variants as stored
+use Rattle.instructions.specs.Operands.{Surroundings, Operands, Meaning, immediateS, fieldY}
+use Rattle.instructions.specs.declared.Action.{Action}
+use Rattle.instructions.specs.declared.Action.the-variants.{Write, Store, Exception}
+use Rattle.transfer.specs.declared.Read.{Read}
+use Rattle.transfer.specs.declared.Read.the-variants.{Value, Fault}
+
+-- ---- reading: a value, or the fault of the translation or the bus timeout (16)
+
+abbrev pub answered : Loaded → Read
+answered (loaded.Value v) = Value v
+answered loaded.Timeout = Fault (loadedEid loaded.Timeout)
+
+abbrev pub readThrough : ℕ → Memory → Translation → Read
+readThrough width m (Physical address) = answered (loadOf width m address)
+readThrough width m TlbMiss = Fault (translationEid TlbMiss)
+readThrough width m TlbWrite = Fault (translationEid TlbWrite)
+readThrough width m TlbInvalid = Fault (translationEid TlbInvalid)
+readThrough width m IllegalAddress = Fault (translationEid IllegalAddress)
+readThrough width m PrivilegedAddress = Fault (translationEid PrivilegedAddress)
+
+-- the byte, half-word or word at a virtual address
+unfoldable pub readFrom : ℕ → Surroundings → ℕ → Read
+readFrom width s address = readThrough width (s .memory) (translated (s .psw) (s .highs) (s .lows) width false address)
+
+-- the address of a load or a store
+abbrev pub addressOf : Operands → ℕ
+addressOf o = sum (o .x) (immediateS o)
+
+-- a value extended into a register, or the fault
+abbrev pub landed : (ℕ → ℕ) → ℕ → ℕ → ℕ → Read → Action
+landed extend number address next (Value v) = Write number (extend v) next
+landed extend number address next (Fault eid) = Exception eid address 0
+
+unfoldable pub load : ℕ → (ℕ → ℕ) → Meaning
+load width extend s o = landed extend (fieldY (o .word)) (addressOf o) (o .next) (readFrom width s (addressOf o))
+
+-- the extensions of LDW, LDH, LDHU, LDB and LDBU in this order, as the code chooses them
+unfoldable pub extensions : List (ℕ → ℕ)
+extensions = (λ v. v) ∷ signExtend 16 ∷ zeroExtend 16 ∷ signExtend 8 ∷ zeroExtend 8 ∷ []
+
+-- 3.5.1 to 3.5.5
+abbrev pub LDW : Meaning
+LDW = load 4 (λ v. v)
+
+abbrev pub LDH : Meaning
+LDH = load 2 (signExtend 16)
+
+abbrev pub LDHU : Meaning
+LDHU = load 2 (zeroExtend 16)
+
+abbrev pub LDB : Meaning
+LDB = load 1 (signExtend 8)
+
+abbrev pub LDBU : Meaning
+LDBU = load 1 (zeroExtend 8)
+
+-- ---- storing: at a physical address, or the same faults
+
+abbrev pub settled : ℕ → ℕ → ℕ → ℕ → Stored → Action
+settled width physical value address stored.Done = Store width physical value
+settled width physical value address stored.Timeout = Exception (storedEid stored.Timeout) address 0
+
+abbrev pub storeThrough : ℕ → Memory → ℕ → ℕ → Translation → Action
+storeThrough width m value address (Physical physical) = settled width physical value address (storeAnswer width m physical)
+storeThrough width m value address TlbMiss = Exception (translationEid TlbMiss) address 0
+storeThrough width m value address TlbWrite = Exception (translationEid TlbWrite) address 0
+storeThrough width m value address TlbInvalid = Exception (translationEid TlbInvalid) address 0
+storeThrough width m value address IllegalAddress = Exception (translationEid IllegalAddress) address 0
+storeThrough width m value address PrivilegedAddress = Exception (translationEid PrivilegedAddress) address 0
+
+-- a value to a virtual address
+unfoldable pub storeTo : ℕ → Surroundings → ℕ → ℕ → Action
+storeTo width s value address =
+    storeThrough width (s .memory) value address (translated (s .psw) (s .highs) (s .lows) width true address)
+
+abbrev pub store : ℕ → Meaning
+store width s o = storeTo width s (o .y) (addressOf o)
+
+-- 3.5.6 to 3.5.8
+abbrev pub STW : Meaning
+STW = store 4
+
+abbrev pub STH : Meaning
+STH = store 2
+
+abbrev pub STB : Meaning
+STB = store 1
+
+-- opcodes 30 to 37
+unfoldable pub transfers : List Meaning
+transfers = LDW ∷ LDH ∷ LDHU ∷ LDB ∷ LDBU ∷ STW ∷ STH ∷ STB ∷ []

@@ -1,0 +1,2 @@
+-- The laws of `translation`.
+pub mod Granted

@@ -1,0 +1,12 @@
+-- `translation::is_user_mode` meets its contract, by its definition.
+use borrow.Author.Needs.{needs}
+use Rattle.status.specs.Psw.{userMode, userCurrent}
+use Rattle.translation.proofs.is_user_mode.Statement.{statement}
+use Rattle.translation.proofs.is_user_mode.Tie as tie
+
+returns : tie.Need-returns
+unfolding userMode userCurrent
+returns c = search needs
+
+pub is-user-mode-spec : {M : Type 1} → statement M
+is-user-mode-spec = tie.close (tie.spec returns)

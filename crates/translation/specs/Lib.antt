@@ -1,0 +1,2 @@
+-- The definitions of `translation`.
+pub mod Translation

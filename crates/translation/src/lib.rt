@@ -1,0 +1,112 @@
+// The translation of a virtual address to a physical one, or its fault (document 01, "One step"; manual, 2.9).
+use processor::Processor;
+use processor::Words;
+use processor::tlb;
+ghost use mathlib.Core.Path.{_≡_};
+ghost use mathlib.Core.Bool.{not};
+ghost use Prim.Native.Nat.{_%_};
+ghost use lib.Dec.{eqb};
+ghost use Rattle.status.specs.Psw.{userMode};
+ghost use Rattle.translation.specs.Translation.{bytesOf, through, mapped, forbidden, translated, translationEid};
+
+// The size of an access.
+pub enum Width {
+    Byte,
+    Half,
+    Word,
+}
+
+pub enum Translation {
+    Physical(u32),
+    TlbMiss,
+    TlbWrite,
+    TlbInvalid,
+    IllegalAddress,
+    PrivilegedAddress,
+}
+
+pub fn is_user_mode(psw: u32) -> bool
+    ensures { λ r. ⌜ r ≡ userMode psw ⌝ }
+{
+    psw / 0x400_0000 % 2 == 1
+}
+
+fn is_misaligned(address: u32, width: Width) -> bool
+    ensures { λ r. ⌜ r ≡ not (eqb (address % bytesOf width) 0) ⌝ }
+{
+    match width {
+        Width::Byte => false,
+        Width::Half => address % 2 != 0,
+        Width::Word => address % 4 != 0,
+    }
+}
+
+fn is_forbidden(psw: u32, address: u32) -> bool
+    ensures { λ r. ⌜ r ≡ forbidden psw address ⌝ }
+{
+    if address < 0x8000_0000 {
+        return false;
+    }
+    is_user_mode(psw)
+}
+
+fn through(low: u32, store: bool, address: u32) -> Translation
+    ensures { λ r. ⌜ r ≡ through low store address ⌝ }
+{
+    if low % 2 != 1 {
+        return Translation::TlbInvalid;
+    }
+    if store {
+        if low / 2 % 2 != 1 {
+            return Translation::TlbWrite;
+        }
+        return Translation::Physical(low / 0x1000 * 0x1000 + address % 0x1000);
+    }
+    Translation::Physical(low / 0x1000 * 0x1000 + address % 0x1000)
+}
+
+fn mapped<'a>(highs: &'a Words, lows: &'a Words, store: bool, address: u32) -> Translation
+    ensures { λ r. ⌜ r ≡ mapped (now (highs .entry)) (now (lows .entry)) store address ⌝ }
+{
+    let i = tlb::find(highs, address / 0x1000);
+    if i < 32 {
+        return through(lows[i], store, address);
+    }
+    Translation::TlbMiss
+}
+
+pub fn translate<'a>(
+    psw: u32,
+    highs: &'a Words,
+    lows: &'a Words,
+    width: Width,
+    store: bool,
+    address: u32,
+) -> Translation
+    ensures { λ r. ⌜ r ≡ translated psw (now (highs .entry)) (now (lows .entry)) (bytesOf width) store address ⌝ }
+{
+    if is_misaligned(address, width) {
+        return Translation::IllegalAddress;
+    }
+    if is_forbidden(psw, address) {
+        return Translation::PrivilegedAddress;
+    }
+    if 0xC000_0000 <= address {
+        return Translation::Physical(address - 0xC000_0000);
+    }
+    mapped(highs, lows, store, address)
+}
+
+// The identifier of the fault, or 32.
+pub fn eid_of(answer: Translation) -> u32
+    ensures { λ r. ⌜ r ≡ translationEid answer ⌝ }
+{
+    match answer {
+        Translation::Physical(_) => Processor::NO_EXCEPTION,
+        Translation::TlbMiss => Processor::TLB_MISS,
+        Translation::TlbWrite => Processor::TLB_WRITE,
+        Translation::TlbInvalid => Processor::TLB_INVALID,
+        Translation::IllegalAddress => Processor::ILLEGAL_ADDRESS,
+        Translation::PrivilegedAddress => Processor::PRIVILEGED_ADDRESS,
+    }
+}
