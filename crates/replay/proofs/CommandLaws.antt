@@ -1,0 +1,88 @@
+-- A command of each kind, and the commands one after the other.
+use mathlib.Core.Path.{_≡_, refl, ap, sym, _∙_}
+use mathlib.Core.Bool.{Bool, true, false}
+use mathlib.Core.List.{List}
+use Prim.Native.Nat.{ℕ, suc, _+_, _*_, _-_, _/_, _%_, _^_, _≤_, _<_}
+use native.Mathlib.Omega.{arith}
+use lib.Dec.{eqb}
+use lib.ListN.{length}
+use borrow.Author.Tests.{eq-eqb, ne-eqb}
+use Rattle.endian.specs.BigEndian.{readAt}
+use Rattle.machine.specs.State.{Machine}
+use Rattle.machine.specs.Step.{stepOf, stepEid}
+use Rattle.record.specs.Calls.{readRefusal}
+use Rattle.replay.specs.declared.tally.Counts.{Counts}
+use Rattle.replay.specs.Tally.{caseBegun, stepMade, endRead, judged}
+use Rattle.replay.specs.Expected.{Expected, clear, patchFits, patched, startedIn, stepAgrees}
+use Rattle.replay.specs.Replay.{Tallies, Replay, replay, opcodeAt, tallied, good, done, afterJudging, commanded, commandedAt, replayedFrom, replayed}
+
+-- ---- one command
+
+module _ (x : Expected) (m : Machine) (c : Counts) (t : Tallies) (kind a b : ℕ) where
+  pub after-end : (d : Counts) → c .ended ≡ true → d ≡ judged (eqb kind 7) false c → replay x m d t ≡ commanded (replay x m c t) kind a b
+  unfolding commanded good done afterJudging
+  after-end d e f = simp (e, f)
+
+  module _ (on : c .ended ≡ false) where
+    pub command-clear : (y : Expected) (d : Counts) → kind ≡ 0 → y ≡ clear x → d ≡ caseBegun c
+        → replay y m d t ≡ commanded (replay x m c t) kind a b
+    unfolding commanded good done afterJudging judged
+    command-clear y d k f g = simp (on, k, f, g)
+
+    pub command-start : (n : Machine) (d : Counts) (refusal : ℕ) → kind ≡ 6 → n ≡ startedIn (m .memory) x
+        → refusal ≡ readRefusal (x .bytes) → d ≡ judged false (eqb refusal 0) c → replay x n d t ≡ commanded (replay x m c t) kind a b
+    unfolding commanded good done afterJudging
+    command-start n d refusal k f g h = simp (on, k, f, h, g)
+
+    pub command-step : (n : Machine) (d made : Counts) (after : Tallies) (agrees : Bool) → kind ≡ 7 → n ≡ stepOf m a
+        → agrees ≡ stepAgrees x b m a → after ≡ tallied t (opcodeAt m) (stepEid m a) → made ≡ stepMade c
+        → d ≡ judged true agrees made → replay x n d after ≡ commanded (replay x m c t) kind a b
+    unfolding commanded good done afterJudging
+    command-step n d made after agrees k f g h i j = simp (on, k, f, j, g, h, i)
+
+    pub command-end : (d ended : Counts) → kind ≡ 8 → ended ≡ endRead c → d ≡ judged false (eqb (c .cases) b) ended
+        → replay x m d t ≡ commanded (replay x m c t) kind a b
+    unfolding commanded good done afterJudging
+    command-end d ended k f g = simp (on, k, g, f)
+
+    pub command-patch : (y : Expected) (d : Counts) (fits : Bool) → (kind ≡ 0 → ⊥) → (kind ≡ 6 → ⊥) → (kind ≡ 7 → ⊥) → (kind ≡ 8 → ⊥)
+        → fits ≡ patchFits x kind a → y ≡ patched x kind a b → d ≡ judged false fits c
+        → replay y m d t ≡ commanded (replay x m c t) kind a b
+    unfolding commanded good done afterJudging
+    command-patch y d fits k0 k6 k7 k8 f g h = simp (on, ne-eqb kind 0 k0, ne-eqb kind 6 k6, ne-eqb kind 7 k7, ne-eqb kind 8 k8, g, h, f)
+
+-- ---- the commands of a part
+
+module _ (s : List ℕ) (i : ℕ) where
+  pub in-part : i < length s / 8 → i * 8 + 4 + 4 ≤ length s
+  in-part h = omega arith
+
+  pub in-part-word : i < length s / 8 → i * 8 + 4 ≤ length s
+  in-part-word h = omega arith
+
+  left : (n : ℕ) → i < n → n - i ≡ suc (n - (i + 1))
+  left n h = omega arith
+
+  next-place : i * 8 + 8 ≡ (i + 1) * 8
+  next-place = omega arith
+
+  pub replay-more : (n : ℕ) (r q : Replay) (word number : ℕ) → i < n → word ≡ readAt 4 s (i * 8) → number ≡ readAt 4 s (i * 8 + 4)
+      → q ≡ commanded r (word / 16777216) (word % 16777216) number
+      → replayedFrom (n - i) s (i * 8) r ≡ replayedFrom (n - (i + 1)) s ((i + 1) * 8) q
+  unfolding replayedFrom commandedAt
+  replay-more n r q word number h e f g = rw (left n h, ← next-place, g, e, f)
+
+  pub replay-end : (n : ℕ) (r : Replay) → n ≤ i → replayedFrom (n - i) s (i * 8) r ≡ r
+  unfolding replayedFrom
+  replay-end n r h = ap (λ (k : ℕ). replayedFrom k s (i * 8) r) (over n h)
+    where
+      over : (n : ℕ) → n ≤ i → n - i ≡ 0
+      over n h = omega arith
+
+pub replay-start : (s : List ℕ) (n : ℕ) (r : Replay) → replayedFrom n s 0 r ≡ replayedFrom (n - 0) s (0 * 8) r
+replay-start s n r = ap (λ (k : ℕ). replayedFrom k s 0 r) (omega arith)
+
+pub part-judged : (s : List ℕ) (r : Replay) (x : Expected) (m : Machine) (c d : Counts) (t : Tallies)
+    → replayedFrom (length s / 8) s 0 r ≡ replay x m c t → d ≡ judged false (eqb (length s % 8) 0) c → replay x m d t ≡ replayed s r
+unfolding replayed afterJudging
+part-judged s r x m c d t e f = rw (e, f)

@@ -1,0 +1,14 @@
+use Rattle.replay.specs.Tally.{atZero}
+use mathlib.Core.Path.{refl}
+use Rattle.replay.proofs.tally.Counts.zero.Statement.{statement}
+use Rattle.replay.proofs.tally.Counts.zero.Tie as tie
+use Rattle.replay.proofs.tally.Counts.zero.Reads as reads
+use Rattle.replay.proofs.tally.Counts.zero.Lts as lts
+
+-- src/tally.rt:49:5
+returns : tie.Need-returns
+unfolding atZero
+returns c = refl
+
+pub zero-spec : {M : Type 1} → statement M
+zero-spec = tie.close (tie.spec returns)

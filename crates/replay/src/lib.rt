@@ -1,0 +1,174 @@
+// A file of test vectors replayed on the model: what each command does, and what is counted.
+mod bytes;
+mod expected;
+mod model;
+pub mod tally;
+
+use processor::Processor;
+use tally::Counts;
+ghost use mathlib.Core.Path.{_≡_};
+ghost use Rattle.machine.specs.State.{machine};
+ghost use Rattle.replay.specs.Expected.{expected};
+ghost use Rattle.replay.specs.Replay.{tallies, replay, commanded, replayed, finished};
+
+const CLEAR: u32 = 0;
+
+const START: u32 = 6;
+
+const STEP: u32 = 7;
+
+const END: u32 = 8;
+
+// The model's processor, and the counts.
+pub struct Progress {
+    pub processor: Processor,
+    pub counts: Counts,
+}
+
+// A command: its kind and its two numbers.
+fn command(
+    p: Processor,
+    counts: Counts,
+    xrecord: &mut [u8],
+    xram: &mut [u8],
+    xrom: &mut [u8],
+    xbelt: &mut [u8],
+    ram: &mut [u8],
+    rom: &mut [u8],
+    belt: &mut [u8],
+    opcodes: &mut [u32],
+    exceptions: &mut [u32],
+    kind: u32,
+    a: u32,
+    b: u32,
+) -> Progress
+    ensures { λ r. ⌜ replay (expected (now (xrecord .exit)) (now (xram .exit)) (now (xrom .exit)) (now (xbelt .exit))) (machine (r .processor) (now (ram .exit)) (now (rom .exit)) (now (belt .exit))) (r .counts) (tallies (now (opcodes .exit)) (now (exceptions .exit))) ≡ commanded (replay (expected (now (xrecord .entry)) (now (xram .entry)) (now (xrom .entry)) (now (xbelt .entry))) (machine p (now (ram .entry)) (now (rom .entry)) (now (belt .entry))) counts (tallies (now (opcodes .entry)) (now (exceptions .entry)))) kind a b ⌝ }
+{
+    if counts.ended {
+        return Progress {
+            processor: p,
+            counts: counts.judge(kind == STEP, false),
+        };
+    }
+    match kind {
+        CLEAR => {
+            expected::clear(xrecord, xram, xrom, xbelt);
+            Progress {
+                processor: p,
+                counts: counts.begin_case(),
+            }
+        }
+        START => {
+            let reading = model::start(
+                ram,
+                rom,
+                belt,
+                &xrecord[..],
+                &xram[..],
+                &xrom[..],
+                &xbelt[..],
+            );
+            let started = reading.processor;
+            Progress {
+                processor: started,
+                counts: counts.judge(false, reading.refusal == record::ACCEPTED),
+            }
+        }
+        STEP => {
+            let compared = model::step(
+                p,
+                ram,
+                &rom[..],
+                belt,
+                a,
+                opcodes,
+                exceptions,
+                &xrecord[..],
+                &xram[..],
+                &xrom[..],
+                &xbelt[..],
+                b,
+            );
+            let next = compared.processor;
+            Progress {
+                processor: next,
+                counts: counts.make_step().judge(true, compared.agrees),
+            }
+        }
+        END => Progress {
+            processor: p,
+            counts: counts.read_end().judge(false, counts.cases == b),
+        },
+        _ => {
+            let fits = expected::patch(
+                xrecord,
+                xram,
+                xrom,
+                xbelt,
+                kind,
+                a,
+                b,
+            );
+            Progress {
+                processor: p,
+                counts: counts.judge(false, fits),
+            }
+        }
+    }
+}
+
+// The commands of a part of the file.
+pub fn part(
+    p: Processor,
+    counts: Counts,
+    xrecord: &mut [u8],
+    xram: &mut [u8],
+    xrom: &mut [u8],
+    xbelt: &mut [u8],
+    ram: &mut [u8],
+    rom: &mut [u8],
+    belt: &mut [u8],
+    opcodes: &mut [u32],
+    exceptions: &mut [u32],
+    s: &[u8],
+) -> Progress
+    ensures { λ r. ⌜ replay (expected (now (xrecord .exit)) (now (xram .exit)) (now (xrom .exit)) (now (xbelt .exit))) (machine (r .processor) (now (ram .exit)) (now (rom .exit)) (now (belt .exit))) (r .counts) (tallies (now (opcodes .exit)) (now (exceptions .exit))) ≡ replayed (now (s .entry)) (replay (expected (now (xrecord .entry)) (now (xram .entry)) (now (xrom .entry)) (now (xbelt .entry))) (machine p (now (ram .entry)) (now (rom .entry)) (now (belt .entry))) counts (tallies (now (opcodes .entry)) (now (exceptions .entry)))) ⌝ }
+{
+    let mut state = p;
+    let mut tally = counts;
+    let mut i = 0;
+    while i < s.len() / 8 {
+        let word = endian::read_word(s, i * 8);
+        let number = endian::read_word(s, i * 8 + 4);
+        let progress = command(
+            state,
+            tally,
+            xrecord,
+            xram,
+            xrom,
+            xbelt,
+            ram,
+            rom,
+            belt,
+            opcodes,
+            exceptions,
+            word / 0x100_0000,
+            word % 0x100_0000,
+            number,
+        );
+        state = progress.processor;
+        tally = progress.counts;
+        i += 1;
+    }
+    Progress {
+        processor: state,
+        counts: tally.judge(false, s.len() % 8 == 0),
+    }
+}
+
+// After the last part.
+pub fn finish(counts: Counts) -> Counts
+    ensures { λ r. ⌜ r ≡ finished counts ⌝ }
+{
+    counts.judge(false, counts.ended)
+}
