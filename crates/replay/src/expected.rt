@@ -92,12 +92,5 @@ pub fn agree(
     if !record_agrees(p, xrecord) {
         return false;
     }
-    memory_agrees(
-        ram,
-        rom,
-        belt,
-        xram,
-        xrom,
-        xbelt,
-    )
+    memory_agrees(ram, rom, belt, xram, xrom, xbelt)
 }

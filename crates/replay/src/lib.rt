@@ -100,15 +100,7 @@ fn command(
             counts: counts.read_end().judge(false, counts.cases == b),
         },
         _ => {
-            let fits = expected::patch(
-                xrecord,
-                xram,
-                xrom,
-                xbelt,
-                kind,
-                a,
-                b,
-            );
+            let fits = expected::patch(xrecord, xram, xrom, xbelt, kind, a, b);
             Progress {
                 processor: p,
                 counts: counts.judge(false, fits),

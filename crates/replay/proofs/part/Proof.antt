@@ -1,3 +1,4 @@
+-- `replay::part` meets its contract, by the laws of CommandLaws.
 use mathlib.Core.Path.{_≡_, refl, ap, sym, _∙_}
 use Prim.Native.Nat.{_*_, _-_, _/_, _≤_}
 use native.Mathlib.Omega.{arith}
@@ -10,11 +11,6 @@ use Rattle.replay.specs.Replay.{tallies, replay, replayedFrom}
 use Rattle.replay.proofs.CommandLaws.{in-part, in-part-word, replay-more, replay-end, replay-start, part-judged}
 use Rattle.replay.proofs.part.Statement.{statement}
 use Rattle.replay.proofs.part.Tie as tie
-use Rattle.replay.proofs.part.Reads as reads
-use Rattle.replay.proofs.part.Lts as lts
-use Rattle.endian.proofs.read_word.Reads as read-word-reads
-use Rattle.replay.proofs.command.Reads as command-reads
-use Rattle.replay.proofs.tally.Counts.judge.Reads as judge-reads
 
 abbrev Inv-loop : tie.InvT-loop
 Inv-loop xrecord₀ xram₀ xrom₀ xbelt₀ ram₀ rom₀ belt₀ opcodes₀ exceptions₀ s state₀ tally₀ i₀ xrecord xram xrom xbelt ram rom belt opcodes exceptions state tally i = (i ≤ length s / 8)
@@ -32,43 +28,33 @@ Inv-loop xrecord₀ xram₀ xrom₀ xbelt₀ ram₀ rom₀ belt₀ opcodes₀ ex
 abbrev μ-loop : tie.MeasureT-loop
 μ-loop xrecord₀ xram₀ xrom₀ xbelt₀ ram₀ rom₀ belt₀ opcodes₀ exceptions₀ s state₀ tally₀ i₀ xrecord xram xrom xbelt ram rom belt opcodes exceptions state tally i = length s / 8 - i
 
--- src/lib.rt:140:5
 loop-holds : tie.Need-loop-holds Inv-loop μ-loop
 loop-holds c = (omega arith, refl, refl, refl, refl, refl, refl, refl, refl, refl, replay-start _ _ _)
 
--- src/lib.rt:141:41
 mul-read-word : tie.Need-mul-read-word Inv-loop μ-loop
 mul-read-word c = let g = c .before .before .before .before .before .before .before .before .before .before .before .before .good .1 .1 .1 .1 .1 .1 .1 .1 .1 .1 .1 .0 in let inside = in-part (now (c .before .before .before .before .before .before .before .before .before .before .before .before .args .s)) (c .before .loop .i) (c .loop-test .taken) in omega arith
 
--- src/lib.rt:141:13
 read-word-requires : tie.Need-read-word-requires Inv-loop μ-loop
 read-word-requires c κs = in-part-word (now (c .before .before .before .before .before .before .before .before .before .before .before .before .args .s)) (c .before .loop .i) (c .loop-test .taken)
 
--- src/lib.rt:142:43
 mul-read-word-2 : tie.Need-mul-read-word-2 Inv-loop μ-loop
 mul-read-word-2 c = let g = c .before .before .before .before .before .before .before .before .before .before .before .before .before .good .1 .1 .1 .1 .1 .1 .1 .1 .1 .1 .1 .0 in let inside = in-part (now (c .before .before .before .before .before .before .before .before .before .before .before .before .before .args .s)) (c .before .before .loop .i) (c .before .loop-test .taken) in omega arith
 
--- src/lib.rt:142:43
 add-read-word : tie.Need-add-read-word Inv-loop μ-loop
 add-read-word c = let g = c .before .before .before .before .before .before .before .before .before .before .before .before .before .good .1 .1 .1 .1 .1 .1 .1 .1 .1 .1 .1 .0 in let inside = in-part (now (c .before .before .before .before .before .before .before .before .before .before .before .before .before .args .s)) (c .before .before .loop .i) (c .before .loop-test .taken) in omega arith
 
--- src/lib.rt:142:13
 read-word-requires-2 : tie.Need-read-word-requires-2 Inv-loop μ-loop
 read-word-requires-2 c κs = in-part (now (c .before .before .before .before .before .before .before .before .before .before .before .before .before .args .s)) (c .before .before .loop .i) (c .before .loop-test .taken)
 
--- src/lib.rt:143:13
 command-requires : tie.Need-command-requires Inv-loop μ-loop
 command-requires c κs = search needs
 
--- src/lib.rt:161:9
 add-i : tie.Need-add-i Inv-loop μ-loop
 add-i c = let g = c .before .before .before .before .before .before .before .before .before .before .before .before .before .before .before .before .before .before .before .before .before .before .before .before .before .before .before .before .before .before .before .before .before .before .before .before .before .before .before .before .before .before .before .before .good .1 .1 .1 .1 .1 .1 .1 .1 .1 .1 .1 .0 in let inside = in-part (now (c .before .before .before .before .before .before .before .before .before .before .before .before .before .before .before .before .before .before .before .before .before .before .before .before .before .before .before .before .before .before .before .before .before .before .before .before .before .before .before .before .before .before .before .before .args .s)) (c .before .before .before .before .before .before .before .before .before .before .before .before .before .before .before .before .before .before .before .before .before .before .before .before .before .before .before .before .before .before .before .before .before .loop .i) (c .before .before .before .before .before .before .before .before .before .before .before .before .before .before .before .before .before .before .before .before .before .before .before .before .before .before .before .before .before .before .before .before .loop-test .taken) in omega arith
 
--- src/lib.rt:140:5
 loop-less : tie.Need-loop-less Inv-loop μ-loop
 loop-less c = let more = c .before .before .before .before .before .before .before .before .before .before .before .before .before .before .before .before .before .before .before .before .before .before .before .before .before .before .before .before .before .before .before .before .loop-test .taken in omega arith
 
--- src/lib.rt:140:5
 loop-again : tie.Need-loop-again Inv-loop μ-loop
 loop-again c = (
   let more = c .before .before .before .before .before .before .before .before .before .before .before .before .before .before .before .before .before .before .before .before .before .before .before .before .before .before .before .before .before .before .before .before .loop-test .taken in omega arith,
@@ -82,49 +68,38 @@ loop-again c = (
   c .before .before .before .before .before .before .before .before .before .before .before .before .before .before .before .before .before .before .before .before .command .kept .1 .1 .1 .1 .1 .1 .1 .1 .1 .0 ∙ c .before .before .before .before .before .before .before .before .before .before .before .before .before .before .before .before .before .before .before .before .before .before .before .before .before .before .before .before .before .before .before .before .before .loop .inv .8,
   c .before .before .before .before .before .before .before .before .before .before .before .before .before .before .before .before .before .before .before .before .command .kept .1 .1 .1 .1 .1 .1 .1 .1 .1 .1 .0 ∙ c .before .before .before .before .before .before .before .before .before .before .before .before .before .before .before .before .before .before .before .before .before .before .before .before .before .before .before .before .before .before .before .before .before .loop .inv .9,
   c .before .before .before .before .before .before .before .before .before .before .before .before .before .before .before .before .before .before .before .before .before .before .before .before .before .before .before .before .before .before .before .before .before .loop .inv .10 ∙ replay-more _ _ _ _ _ _ _ (c .before .before .before .before .before .before .before .before .before .before .before .before .before .before .before .before .before .before .before .before .before .before .before .before .before .before .before .before .before .before .before .before .loop-test .taken) (c .before .before .before .before .before .before .before .before .before .before .before .before .before .before .before .before .before .before .before .before .before .before .before .before .before .before .before .before .before .before .before .read-word .ensures) (c .before .before .before .before .before .before .before .before .before .before .before .before .before .before .before .before .before .before .before .before .before .before .before .before .before .before .before .before .before .before .read-word2 .ensures) (c .before .before .before .before .before .before .before .before .before .before .before .before .before .before .before .before .before .before .before .before .command .ensures),
-  )
+)
 
--- src/lib.rt:165:17
 judge-requires : tie.Need-judge-requires Inv-loop μ-loop
 judge-requires c κs = search needs
 
--- src/lib.rt:121:1
 same-length : tie.Need-same-length Inv-loop μ-loop
 same-length c = c .before .before .loop .inv .1
 
--- src/lib.rt:121:1
 same-length-2 : tie.Need-same-length-2 Inv-loop μ-loop
 same-length-2 c = c .before .before .loop .inv .2
 
--- src/lib.rt:121:1
 same-length-3 : tie.Need-same-length-3 Inv-loop μ-loop
 same-length-3 c = c .before .before .loop .inv .3
 
--- src/lib.rt:121:1
 same-length-4 : tie.Need-same-length-4 Inv-loop μ-loop
 same-length-4 c = c .before .before .loop .inv .4
 
--- src/lib.rt:121:1
 same-length-5 : tie.Need-same-length-5 Inv-loop μ-loop
 same-length-5 c = c .before .before .loop .inv .5
 
--- src/lib.rt:121:1
 same-length-6 : tie.Need-same-length-6 Inv-loop μ-loop
 same-length-6 c = c .before .before .loop .inv .6
 
--- src/lib.rt:121:1
 same-length-7 : tie.Need-same-length-7 Inv-loop μ-loop
 same-length-7 c = c .before .before .loop .inv .7
 
--- src/lib.rt:121:1
 same-length-8 : tie.Need-same-length-8 Inv-loop μ-loop
 same-length-8 c = c .before .before .loop .inv .8
 
--- src/lib.rt:121:1
 same-length-9 : tie.Need-same-length-9 Inv-loop μ-loop
 same-length-9 c = c .before .before .loop .inv .9
 
--- src/lib.rt:121:1
 returns : tie.Need-returns Inv-loop μ-loop
 returns c = part-judged _ _ _ _ _ _ _ (c .before .before .loop .inv .10 ∙ replay-end _ _ _ _ (c .before .loop-test .left)) (c .judge .ensures)
 

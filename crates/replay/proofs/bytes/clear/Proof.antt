@@ -1,3 +1,4 @@
+-- `replay::bytes::clear` meets its contract, by the laws of SliceLaws.
 use mathlib.Core.Path.{_≡_, refl, ap, sym, _∙_}
 use Prim.Native.Nat.{_-_, _≤_}
 use native.Mathlib.Omega.{arith}
@@ -5,8 +6,6 @@ use lib.ListN.{length, take, replicate, length-set}
 use Rattle.replay.proofs.SliceLaws.{clear-more, clear-end}
 use Rattle.replay.proofs.bytes.clear.Statement.{statement}
 use Rattle.replay.proofs.bytes.clear.Tie as tie
-use Rattle.replay.proofs.bytes.clear.Reads as reads
-use Rattle.replay.proofs.bytes.clear.Lts as lts
 
 abbrev Inv-loop : tie.InvT-loop
 Inv-loop s₀ i₀ s i = (i ≤ length s) × (length s ≡ length s₀) × (take i s ≡ replicate i 0)
@@ -14,31 +13,24 @@ Inv-loop s₀ i₀ s i = (i ≤ length s) × (length s ≡ length s₀) × (take
 abbrev μ-loop : tie.MeasureT-loop
 μ-loop s₀ i₀ s i = length s - i
 
--- src/bytes.rt:40:5
 loop-holds : tie.Need-loop-holds Inv-loop μ-loop
 loop-holds c = (omega arith, refl, refl)
 
--- src/bytes.rt:41:9
 slice-write-s : tie.Need-slice-write-s Inv-loop μ-loop
 slice-write-s c = omega arith
 
--- src/bytes.rt:42:9
 add-i : tie.Need-add-i Inv-loop μ-loop
 add-i c = omega arith
 
--- src/bytes.rt:40:5
 loop-less : tie.Need-loop-less Inv-loop μ-loop
 loop-less c = simp length-set (omega arith)
 
--- src/bytes.rt:40:5
 loop-again : tie.Need-loop-again Inv-loop μ-loop
 loop-again c = (simp length-set (omega arith), simp length-set (c .before .loop .inv .1), clear-more (c .before .loop .s) (c .before .loop .i) (c .loop-test .taken) (c .before .loop .inv .2))
 
--- src/bytes.rt:36:1
 same-length : tie.Need-same-length Inv-loop μ-loop
 same-length c = c .before .loop .inv .1
 
--- src/bytes.rt:36:1
 returns : tie.Need-returns Inv-loop μ-loop
 returns c = clear-end (c .before .loop .s) (c .before .loop .i) _ (c .before .loop .inv .1) (c .loop-test .left) (c .before .loop .inv .0) (c .before .loop .inv .2)
 

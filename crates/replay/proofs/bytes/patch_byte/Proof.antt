@@ -1,3 +1,4 @@
+-- `replay::bytes::patch_byte` meets its contract, by the laws of SliceLaws.
 use mathlib.Core.Path.{_≡_, refl, ap, sym, _∙_}
 use denote.Ref.{now}
 use borrow.Author.Tests.{lt-leb, le-leb}
@@ -5,27 +6,19 @@ use Rattle.replay.proofs.SliceLaws.{patch-out, patch-in}
 use borrow.Author.Needs.{needs}
 use Rattle.replay.proofs.bytes.patch_byte.Statement.{statement}
 use Rattle.replay.proofs.bytes.patch_byte.Tie as tie
-use Rattle.replay.proofs.bytes.patch_byte.Reads as reads
-use Rattle.replay.proofs.bytes.patch_byte.Lts as lts
-use Rattle.endian.proofs.write_byte.Reads as write-byte-reads
 
--- src/bytes.rt:64:18
 add-if1 : tie.Need-add-if1
 add-if1 c = search needs
 
--- src/bytes.rt:65:9
 returns : tie.Need-returns
 returns c = (sym (lt-leb _ _ (c .if1 .taken)), patch-out 1 (now (c .before .before .args .s)) (c .before .before .args .at) (c .before .before .args .v) (c .if1 .taken))
 
--- src/bytes.rt:67:5
 write-byte-requires : tie.Need-write-byte-requires
 write-byte-requires c κs = search needs
 
--- src/bytes.rt:59:1
 same-length : tie.Need-same-length
 same-length c = search needs
 
--- src/bytes.rt:59:1
 returns-2 : tie.Need-returns-2
 returns-2 c = (sym (le-leb _ _ (c .before .before .before .before .if1 .left)), c .before .before .write-byte .ensures ∙ patch-in 1 (now (c .before .before .before .before .before .before .args .s)) (c .before .before .before .before .before .before .args .at) (c .before .before .before .before .before .before .args .v) (c .before .before .before .before .if1 .left))
 

@@ -1,3 +1,4 @@
+-- `replay::bytes::patch_word` meets its contract, by the laws of SliceLaws.
 use mathlib.Core.Path.{_≡_, refl, ap, sym, _∙_}
 use denote.Ref.{now}
 use borrow.Author.Tests.{lt-leb, le-leb}
@@ -5,27 +6,19 @@ use Rattle.replay.proofs.SliceLaws.{patch-out, patch-in}
 use borrow.Author.Needs.{needs}
 use Rattle.replay.proofs.bytes.patch_word.Statement.{statement}
 use Rattle.replay.proofs.bytes.patch_word.Tie as tie
-use Rattle.replay.proofs.bytes.patch_word.Reads as reads
-use Rattle.replay.proofs.bytes.patch_word.Lts as lts
-use Rattle.endian.proofs.write_word.Reads as write-word-reads
 
--- src/bytes.rt:52:18
 add-if1 : tie.Need-add-if1
 add-if1 c = search needs
 
--- src/bytes.rt:53:9
 returns : tie.Need-returns
 returns c = (sym (lt-leb _ _ (c .if1 .taken)), patch-out 4 (now (c .before .before .args .s)) (c .before .before .args .at) (c .before .before .args .v) (c .if1 .taken))
 
--- src/bytes.rt:55:5
 write-word-requires : tie.Need-write-word-requires
 write-word-requires c κs = search needs
 
--- src/bytes.rt:47:1
 same-length : tie.Need-same-length
 same-length c = search needs
 
--- src/bytes.rt:47:1
 returns-2 : tie.Need-returns-2
 returns-2 c = (sym (le-leb _ _ (c .before .before .before .before .if1 .left)), c .before .before .write-word .ensures ∙ patch-in 4 (now (c .before .before .before .before .before .before .args .s)) (c .before .before .before .before .before .before .args .at) (c .before .before .before .before .before .before .args .v) (c .before .before .before .before .if1 .left))
 

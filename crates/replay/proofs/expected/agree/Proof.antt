@@ -1,3 +1,4 @@
+-- `replay::expected::agree` meets its contract, by the laws of ExpectedLaws.
 use mathlib.Core.Path.{sym, _∙_}
 use borrow.Author.Tests.{not-true, not-false}
 use denote.Ref.{now}
@@ -5,28 +6,19 @@ use Rattle.replay.proofs.ExpectedLaws.{eid-differs, record-differs, mem
 use borrow.Author.Needs.{needs}
 use Rattle.replay.proofs.expected.agree.Statement.{statement}
 use Rattle.replay.proofs.expected.agree.Tie as tie
-use Rattle.replay.proofs.expected.agree.Reads as reads
-use Rattle.replay.proofs.expected.agree.Lts as lts
-use Rattle.replay.proofs.expected.memory_agrees.Reads as memory-agrees-reads
-use Rattle.replay.proofs.expected.record_agrees.Reads as record-agrees-reads
 
--- src/expected.rt:90:9
 returns : tie.Need-returns
 returns c = eid-differs _ _ _ _ (c .if1 .taken)
 
--- src/expected.rt:92:9
 record-agrees-requires : tie.Need-record-agrees-requires
 record-agrees-requires c κs = search needs
 
--- src/expected.rt:93:9
 returns-2 : tie.Need-returns-2
 returns-2 c = record-differs _ _ _ _ (c .before .before .if1 .left) (sym (c .before .record-agrees .ensures) ∙ not-true _ (c .if2 .taken))
 
--- src/expected.rt:95:5
 memory-agrees-requires : tie.Need-memory-agrees-requires
 memory-agrees-requires c κs = search needs
 
--- src/expected.rt:75:1
 returns-3 : tie.Need-returns-3
 returns-3 c = memory-decides _ _ _ _ _ (c .before .before .before .if1 .left) (sym (c .before .before .record-agrees .ensures) ∙ not-false _ (c .before .if2 .left)) (c .memory-agrees .ensures)
 

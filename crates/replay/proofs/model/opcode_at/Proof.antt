@@ -1,3 +1,4 @@
+-- `replay::model::opcode_at` meets its contract, by the laws of StepLaws.
 use mathlib.Core.Path.{sym, _∙_}
 use denote.Ref.{now}
 use Rattle.machine.specs.State.{machine}
@@ -5,27 +6,19 @@ use Rattle.replay.proofs.StepLaws.{opcode-fetched, opcode-faulted}
 use borrow.Author.Needs.{needs}
 use Rattle.replay.proofs.model.opcode_at.Statement.{statement}
 use Rattle.replay.proofs.model.opcode_at.Tie as tie
-use Rattle.replay.proofs.model.opcode_at.Reads as reads
-use Rattle.replay.proofs.model.opcode_at.Lts as lts
-use Rattle.instructions.proofs.transfer.read_word.Reads as read-word-reads
 
--- src/model.rt:49:9
 read-word-requires : tie.Need-read-word-requires
 read-word-requires c κs = search needs
 
--- src/model.rt:51:21
 enum-known-fetched : tie.Need-enum-known-fetched
 enum-known-fetched c = search needs
 
--- src/model.rt:52:27
 enum-told : tie.Need-enum-told
 enum-told c = search needs
 
--- src/model.rt:44:1
 returns : tie.Need-returns
 returns c = opcode-fetched (machine (c .before .before .before .before .before .before .before .before .before .before .before .args .p) (now (c .before .before .before .before .before .before .before .before .before .before .before .args .ram)) (now (c .before .before .before .before .before .before .before .before .before .before .before .args .rom)) (now (c .before .before .before .before .before .before .before .before .before .before .before .args .belt))) _ (sym (c .before .before .before .read-word .ensures) ∙ c .before .fetched .given .1)
 
--- src/model.rt:44:1
 returns-2 : tie.Need-returns-2
 returns-2 c = opcode-faulted (machine (c .before .before .before .before .before .before .before .before .before .before .args .p) (now (c .before .before .before .before .before .before .before .before .before .before .args .ram)) (now (c .before .before .before .before .before .before .before .before .before .before .args .rom)) (now (c .before .before .before .before .before .before .before .before .before .before .args .belt))) _ (sym (c .before .before .read-word .ensures) ∙ c .enum-told .given .1)
 

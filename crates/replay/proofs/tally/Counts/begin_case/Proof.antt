@@ -1,16 +1,12 @@
+-- `replay::tally::Counts::begin_case` meets its contract.
 use Rattle.replay.specs.Tally.{caseBegun}
 use borrow.Author.Needs.{needs}
 use Rattle.replay.proofs.tally.Counts.begin_case.Statement.{statement}
 use Rattle.replay.proofs.tally.Counts.begin_case.Tie as tie
-use Rattle.replay.proofs.tally.Counts.begin_case.Reads as reads
-use Rattle.replay.proofs.tally.Counts.begin_case.Lts as lts
-use Rattle.replay.proofs.tally.raise.Reads as raise-reads
 
--- src/tally.rt:67:9
 raise-requires : tie.Need-raise-requires
 raise-requires c κs = search needs
 
--- src/tally.rt:64:5
 returns : tie.Need-returns
 unfolding caseBegun
 returns c = simp (c .raise .ensures)

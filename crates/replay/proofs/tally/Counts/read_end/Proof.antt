@@ -1,11 +1,9 @@
+-- `replay::tally::Counts::read_end` meets its contract.
 use Rattle.replay.specs.Tally.{endRead}
 use mathlib.Core.Path.{refl}
 use Rattle.replay.proofs.tally.Counts.read_end.Statement.{statement}
 use Rattle.replay.proofs.tally.Counts.read_end.Tie as tie
-use Rattle.replay.proofs.tally.Counts.read_end.Reads as reads
-use Rattle.replay.proofs.tally.Counts.read_end.Lts as lts
 
--- src/tally.rt:80:5
 returns : tie.Need-returns
 unfolding endRead
 returns c = refl

@@ -1,11 +1,9 @@
+-- `replay::tally::Counts::zero` meets its contract.
 use Rattle.replay.specs.Tally.{atZero}
 use mathlib.Core.Path.{refl}
 use Rattle.replay.proofs.tally.Counts.zero.Statement.{statement}
 use Rattle.replay.proofs.tally.Counts.zero.Tie as tie
-use Rattle.replay.proofs.tally.Counts.zero.Reads as reads
-use Rattle.replay.proofs.tally.Counts.zero.Lts as lts
 
--- src/tally.rt:49:5
 returns : tie.Need-returns
 unfolding atZero
 returns c = refl

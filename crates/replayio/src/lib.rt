@@ -1,0 +1,144 @@
+// Reads a file of test vectors in parts, replays it, and prints what was counted.
+mod report;
+
+use libc::STDOUT_FILENO;
+use processor::Processor;
+use replay::tally::Counts;
+ghost use Prim.Native.Nat.{_-_, _≤_};
+
+// The bytes of a part, and the most parts that are read: a longer file is one without an end.
+const PART: usize = 65536;
+
+const MOST_PARTS: u32 = 1024;
+
+struct Part {
+    processor: Processor,
+    counts: Counts,
+    left: u32,
+}
+
+// How many parts may follow one of n bytes: none where it did not fill its buffer.
+fn parts_left(n: usize, left: u32) -> u32
+    ensures { λ r. ⌜ r ≤ left - 1 ⌝ }
+{
+    if n < PART {
+        return 0;
+    }
+    if left == 0 {
+        return 0;
+    }
+    left - 1
+}
+
+// Reads and replays a part.
+fn replay_part(
+    fd: i32,
+    left: u32,
+    p: Processor,
+    counts: Counts,
+    xrecord: &mut [u8],
+    xram: &mut [u8],
+    xrom: &mut [u8],
+    xbelt: &mut [u8],
+    ram: &mut [u8],
+    rom: &mut [u8],
+    belt: &mut [u8],
+    opcodes: &mut [u32],
+    exceptions: &mut [u32],
+) -> Part
+    ensures { λ r. ⌜ r .left ≤ left - 1 ⌝ }
+{
+    let mut buffer = io::large_buffer();
+    let n = io::read_full(fd, &mut buffer);
+    let progress = replay::part(
+        p,
+        counts,
+        xrecord,
+        xram,
+        xrom,
+        xbelt,
+        ram,
+        rom,
+        belt,
+        opcodes,
+        exceptions,
+        &buffer[..n],
+    );
+    let next = progress.processor;
+    let after = progress.counts;
+    Part {
+        processor: next,
+        counts: after,
+        left: parts_left(n, left),
+    }
+}
+
+fn replay_file(
+    fd: i32,
+    xrecord: &mut [u8],
+    xram: &mut [u8],
+    xrom: &mut [u8],
+    xbelt: &mut [u8],
+    ram: &mut [u8],
+    rom: &mut [u8],
+    belt: &mut [u8],
+    opcodes: &mut [u32],
+    exceptions: &mut [u32],
+) -> Counts {
+    let mut state = Processor::reset();
+    let mut counts = Counts::zero();
+    let mut left = MOST_PARTS;
+    while left > 0 {
+        let part = replay_part(
+            fd,
+            left,
+            state,
+            counts,
+            xrecord,
+            xram,
+            xrom,
+            xbelt,
+            ram,
+            rom,
+            belt,
+            opcodes,
+            exceptions,
+        );
+        state = part.processor;
+        counts = part.counts;
+        left = part.left;
+    }
+    replay::finish(counts)
+}
+
+// RAM of 8,192 bytes, ROM of 4,096 and a belt of 1,024.
+pub fn run(path: &[u8]) {
+    let fd = os::open_read(path);
+    if fd < 0 {
+        io::write_all(STDOUT_FILENO, b"the file cannot be opened\n");
+        return;
+    }
+    let mut xrecord = [0u8; 414];
+    let mut xram = [0u8; 8192];
+    let mut xrom = [0u8; 4096];
+    let mut xbelt = [0u8; 1024];
+    let mut ram = [0u8; 8192];
+    let mut rom = [0u8; 4096];
+    let mut belt = [0u8; 1024];
+    let mut opcodes = [0u32; 64];
+    let mut exceptions = [0u32; 32];
+    let counts = replay_file(
+        fd,
+        &mut xrecord,
+        &mut xram,
+        &mut xrom,
+        &mut xbelt,
+        &mut ram,
+        &mut rom,
+        &mut belt,
+        &mut opcodes,
+        &mut exceptions,
+    );
+    libc::close(fd);
+    report::print(counts, &opcodes, &exceptions);
+}
