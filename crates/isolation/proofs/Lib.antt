@@ -4,6 +4,7 @@ pub mod SameActions
 pub mod SameLooks
 pub mod SameStores
 pub mod UserStep
+pub mod TraceLaws
 pub mod Entries
 pub mod Lift
 pub mod Runs

@@ -1,6 +1,7 @@
 -- `computation::divide_signed` meets its contract, by the laws of Division.
+use mathlib.Core.Path.{ap, ap₂, sym, _∙_}
 use borrow.Author.Needs.{needs}
-use Rattle.computation.specs.Computation.{unsignedQuotient}
+use Rattle.computation.specs.Computation.{unsignedQuotient, withSign}
 use Rattle.computation.proofs.Division.{quotient-by-magnitudes}
 use Rattle.computation.proofs.divide_signed.Statement.{statement}
 use Rattle.computation.proofs.divide_signed.Tie as tie
@@ -22,7 +23,7 @@ with-sign-requires-2 c κs = search needs
 
 returns : tie.Need-returns
 unfolding unsignedQuotient
-returns c = cc (quotient-by-magnitudes (c .before .before .before .before .before .args .x) (c .before .before .before .before .before .args .y) (c .before .before .before .before .before .fits .x .fits) (c .before .before .before .before .before .fits .y .fits))
+returns c = c .with-sign2 .ensures ∙ ap (withSign (c .before .before .before .before .before .args .x)) (c .before .with-sign .ensures ∙ ap (withSign (c .before .before .before .before .before .args .y)) (c .before .before .divide-unsigned .ensures ∙ ap₂ unsignedQuotient (c .before .before .before .before .magnitude .ensures) (c .before .before .before .magnitude2 .ensures))) ∙ sym (quotient-by-magnitudes (c .before .before .before .before .before .args .x) (c .before .before .before .before .before .args .y) (c .before .before .before .before .before .fits .x .fits) (c .before .before .before .before .before .fits .y .fits))
 
 pub divide-signed-spec : {M : Type 1} → statement M
 divide-signed-spec =

@@ -1,6 +1,7 @@
 -- `computation::remainder_signed` meets its contract, by the laws of Division.
+use mathlib.Core.Path.{ap, ap₂, sym, _∙_}
 use borrow.Author.Needs.{needs}
-use Rattle.computation.specs.Computation.{unsignedRemainder}
+use Rattle.computation.specs.Computation.{unsignedRemainder, withSign}
 use Rattle.computation.proofs.Division.{remainder-by-magnitudes}
 use Rattle.computation.proofs.remainder_signed.Statement.{statement}
 use Rattle.computation.proofs.remainder_signed.Tie as tie
@@ -19,7 +20,7 @@ with-sign-requires c κs = search needs
 
 returns : tie.Need-returns
 unfolding unsignedRemainder
-returns c = cc (remainder-by-magnitudes (c .before .before .before .before .args .x) (c .before .before .before .before .args .y) (c .before .before .before .before .fits .x .fits) (c .before .before .before .before .fits .y .fits))
+returns c = c .with-sign .ensures ∙ ap (withSign (c .before .before .before .before .args .x)) (c .before .remainder-unsigned .ensures ∙ ap₂ unsignedRemainder (c .before .before .before .magnitude .ensures) (c .before .before .magnitude2 .ensures)) ∙ sym (remainder-by-magnitudes (c .before .before .before .before .args .x) (c .before .before .before .before .args .y) (c .before .before .before .before .fits .x .fits) (c .before .before .before .before .fits .y .fits))
 
 pub remainder-signed-spec : {M : Type 1} → statement M
 remainder-signed-spec =

@@ -1,4 +1,6 @@
 -- `computation::shift_arithmetic` meets its contract, by the laws of Shifts.
+use mathlib.Core.Path.{ap, sym, _∙_}
+use Prim.Native.Nat.{ℕ, _-_}
 use borrow.Author.Needs.{needs}
 use Rattle.computation.specs.Computation.{shiftRight}
 use Rattle.computation.proofs.Shifts.{arithmetic-low, arithmetic-high}
@@ -19,11 +21,11 @@ sub-result c = search needs
 
 returns : tie.Need-returns
 unfolding shiftRight
-returns c = cc (arithmetic-low (c .before .before .args .x) (c .before .before .args .y) (c .before .if1 .taken))
+returns c = c .shift-right .ensures ∙ sym (arithmetic-low (c .before .before .args .x) (c .before .before .args .y) (c .before .if1 .taken))
 
 returns-2 : tie.Need-returns-2
 unfolding shiftRight
-returns-2 c = cc (arithmetic-high (c .before .before .args .x) (c .before .before .args .y) (c .before .if1 .left) (c .before .before .fits .x .fits))
+returns-2 c = ap (λ (n : ℕ). 4294967295 - n) (c .shift-right2 .ensures) ∙ sym (arithmetic-high (c .before .before .args .x) (c .before .before .args .y) (c .before .if1 .left) (c .before .before .fits .x .fits))
 
 pub shift-arithmetic-spec : {M : Type 1} → statement M
 shift-arithmetic-spec =

@@ -1,5 +1,8 @@
 -- `control::target_16` meets its contract, by the laws of Targets.
+use mathlib.Core.Path.{ap, _∙_}
+use Prim.Native.Nat.{ℕ}
 use borrow.Author.Needs.{needs}
+use Rattle.computation.specs.Computation.{sum, shiftLeft}
 use Rattle.control.proofs.Targets.{target-by-shift}
 use Rattle.control.proofs.target_16.Statement.{statement}
 use Rattle.control.proofs.target_16.Tie as tie
@@ -14,7 +17,7 @@ add-requires : tie.Need-add-requires
 add-requires c κs = search needs
 
 returns : tie.Need-returns
-returns c = cc (target-by-shift 16 (c .before .before .before .args .word) (c .before .before .before .args .next))
+returns c = c .add .ensures ∙ ap (sum (c .before .before .before .args .next)) (c .before .shift-left .ensures ∙ ap (λ (n : ℕ). shiftLeft n 2) (c .before .before .sign-extend-16 .ensures)) ∙ target-by-shift 16 (c .before .before .before .args .word) (c .before .before .before .args .next)
 
 pub target-16-spec : {M : Type 1} → statement M
 target-16-spec =

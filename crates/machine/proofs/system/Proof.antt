@@ -1,13 +1,13 @@
 -- `machine::system` meets its contract, by the laws of Systems.
 use mathlib.Core.Path.{ap₂, _∙_}
+use Prim.Native.Nat.{ℕ}
+use borrow.Author.Needs.{needs}
 use Rattle.processor.specs.Register.{written, specialWritten}
 use Rattle.processor.specs.Tlb.{searched, randomWritten, entryRead, indexedWritten}
 use Rattle.processor.specs.declared.Processor.{Processor}
-use Rattle.machine.proofs.Systems.{moved, last}
-use Prim.Native.Nat.{ℕ}
-use borrow.Author.Needs.{needs}
-use Rattle.machine.specs.Step.{systemDone}
 use Rattle.instructions.proofs.Arms.{arm}
+use Rattle.machine.specs.Step.{systemDone}
+use Rattle.machine.proofs.Systems.{moved, last}
 use Rattle.machine.proofs.system.Statement.{statement}
 use Rattle.machine.proofs.system.Tie as tie
 

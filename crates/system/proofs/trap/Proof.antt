@@ -1,4 +1,5 @@
 -- `system::trap` meets its contract, by the laws of Arms.
+use mathlib.Core.Path.{refl}
 use Prim.Native.Nat.{ℕ}
 use lib.ListN.{getD}
 use borrow.Author.Needs.{needs}
@@ -13,11 +14,11 @@ privileged-requires c κs = search needs
 
 returns : tie.Need-returns
 unfolding traps
-returns c = arm (λ (n : ℕ). getD traps n illegalSystem (c .before .args .psw) (c .before .args .y) (c .before .args .word)) (c .match .keys1) (cc)
+returns c = arm (λ (n : ℕ). getD traps n illegalSystem (c .before .args .psw) (c .before .args .y) (c .before .args .word)) (c .match .keys1) refl
 
 returns-2 : tie.Need-returns-2
 unfolding traps
-returns-2 c = arm (λ (n : ℕ). getD traps n illegalSystem (c .before .before .args .psw) (c .before .before .args .y) (c .before .before .args .word)) (c .before .match .keys2) (cc)
+returns-2 c = arm (λ (n : ℕ). getD traps n illegalSystem (c .before .before .args .psw) (c .before .before .args .y) (c .before .before .args .word)) (c .before .match .keys2) (c .privileged .ensures)
 
 returns-3 : tie.Need-returns-3
 unfolding traps

@@ -1,5 +1,5 @@
 -- `transfer::extend` meets its contract, by the laws of Arms.
-use mathlib.Core.Path.{_∙_}
+use mathlib.Core.Path.{refl, _∙_}
 use Prim.Native.Nat.{ℕ}
 use lib.ListN.{getD}
 use borrow.Author.Needs.{needs}
@@ -24,19 +24,19 @@ zero-extend-8-requires c κs = search needs
 
 returns : tie.Need-returns
 unfolding extensions
-returns c = arm (λ (n : ℕ). getD extensions n (zeroExtend 8) (c .before .args .v)) (c .match .keys1) (cc)
+returns c = arm (λ (n : ℕ). getD extensions n (zeroExtend 8) (c .before .args .v)) (c .match .keys1) refl
 
 returns-2 : tie.Need-returns-2
 unfolding extensions
-returns-2 c = arm (λ (n : ℕ). getD extensions n (zeroExtend 8) (c .before .before .args .v)) (c .before .match .keys2) (cc)
+returns-2 c = arm (λ (n : ℕ). getD extensions n (zeroExtend 8) (c .before .before .args .v)) (c .before .match .keys2) (c .sign-extend-16 .ensures)
 
 returns-3 : tie.Need-returns-3
 unfolding extensions
-returns-3 c = arm (λ (n : ℕ). getD extensions n (zeroExtend 8) (c .before .before .args .v)) (c .before .match .keys3) (cc)
+returns-3 c = arm (λ (n : ℕ). getD extensions n (zeroExtend 8) (c .before .before .args .v)) (c .before .match .keys3) (c .zero-extend-16 .ensures)
 
 returns-4 : tie.Need-returns-4
 unfolding extensions
-returns-4 c = arm (λ (n : ℕ). getD extensions n (zeroExtend 8) (c .before .before .args .v)) (c .before .match .keys4) (cc)
+returns-4 c = arm (λ (n : ℕ). getD extensions n (zeroExtend 8) (c .before .before .args .v)) (c .before .match .keys4) (c .sign-extend-8 .ensures)
 
 returns-5 : tie.Need-returns-5
 unfolding extensions
