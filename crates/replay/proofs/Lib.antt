@@ -4,3 +4,4 @@ pub mod TallyLaws
 pub mod ExpectedLaws
 pub mod StepLaws
 pub mod CommandLaws
+pub mod Mismatches

@@ -1,0 +1,135 @@
+-- A command is counted as a mismatch exactly if it is not good. So no mismatch says that each step of the file agreed with the definition.
+use mathlib.Core.Path.{_≡_, refl, ap, sym, _∙_}
+use mathlib.Core.Bool.{Bool, true, false, cond}
+use mathlib.Core.List.{List}
+use Prim.Native.Nat.{ℕ, zero, suc, _+_, _/_, _%_, _<_, _≤_}
+use native.Mathlib.Omega.{arith}
+use lib.Dec.{eqb}
+use lib.ListN.{length}
+use borrow.Author.Tests.{eqb-true, eq-eqb}
+use Rattle.words.specs.Logic.{both}
+use Rattle.words.proofs.Cases.{chosen, below-or-not}
+use Rattle.processor.specs.State.{fit}
+use Rattle.machine.specs.State.{Machine}
+use Rattle.record.specs.Record.{recordOf}
+use Rattle.replay.specs.declared.tally.Counts.{Counts}
+use Rattle.replay.specs.Bytes.{sameBytes}
+use Rattle.replay.specs.Tally.{raised, caseBegun, stepMade, endRead, failed, judged}
+use Rattle.replay.specs.Expected.{Expected, recordAgrees, memoryAgrees, agrees, stepAgrees}
+use Rattle.replay.specs.Replay.{Replay, good, done, afterJudging, commanded, goodAt, commandedAt, replayedFrom, allGoodFrom, replayed, finished}
+use Rattle.replay.proofs.SliceLaws.{same-equal, same-self}
+use Rattle.replay.proofs.TallyLaws.{raised-more, raised-most}
+
+both-hold : (t u : Bool) → both t u ≡ true → (t ≡ true) × (u ≡ true)
+both-hold true u e = (refl, e)
+both-hold false u e = (e, cc)
+
+-- ---- what agreement says
+
+module _ (x : Expected) (wanted : ℕ) (m : Machine) (eid : ℕ) where
+  pub agrees-says : agrees x wanted m eid ≡ true
+      → (eid ≡ wanted) × (fit (m .processor) ≡ true) × (recordOf (m .processor) ≡ x .bytes)
+      × (m .memory .ram ≡ x .memory .ram) × (m .memory .rom ≡ x .memory .rom) × (m .memory .belt ≡ x .memory .belt)
+  unfolding agrees recordAgrees memoryAgrees
+  agrees-says e =
+      let (number, rest) = both-hold (eqb eid wanted) _ e in
+      let (bytes, memory) = both-hold (both (fit (m .processor)) (sameBytes (recordOf (m .processor)) (x .bytes))) _ rest in
+      let (isFit, written) = both-hold (fit (m .processor)) _ bytes in
+      let (ram, others) = both-hold (sameBytes (m .memory .ram) (x .memory .ram)) _ memory in
+      let (rom, belt) = both-hold (sameBytes (m .memory .rom) (x .memory .rom)) _ others in
+      (eqb-true eid wanted number, isFit, same-equal _ _ written, same-equal _ _ ram, same-equal _ _ rom, same-equal _ _ belt)
+
+  pub says-agrees : eid ≡ wanted → fit (m .processor) ≡ true → recordOf (m .processor) ≡ x .bytes
+      → m .memory .ram ≡ x .memory .ram → m .memory .rom ≡ x .memory .rom → m .memory .belt ≡ x .memory .belt
+      → agrees x wanted m eid ≡ true
+  unfolding agrees recordAgrees memoryAgrees
+  says-agrees e f g h i j =
+      simp (eq-eqb eid wanted e, f, g, h, i, j, same-self (x .bytes), same-self (x .memory .ram), same-self (x .memory .rom)) (same-self (x .memory .belt))
+
+-- ---- one command
+
+module _ (step fine : Bool) (c : Counts) where
+  pub judged-mismatches : judged step fine c .mismatches ≡ cond fine (c .mismatches) (raised (c .mismatches))
+  unfolding judged failed
+  judged-mismatches = go fine
+    where
+      go : (t : Bool) → judged step t c .mismatches ≡ cond t (c .mismatches) (raised (c .mismatches))
+      go true = refl
+      go false = refl
+
+module _ (r : Replay) (kind a b : ℕ) where
+  Kept : Replay → Type 0
+  Kept q = q .counts .mismatches ≡ r .counts .mismatches
+
+  done-keeps : done r kind a b .counts .mismatches ≡ r .counts .mismatches
+  unfolding done caseBegun stepMade endRead Kept
+  done-keeps =
+      chosen Kept (r .counts .ended) refl (chosen Kept (eqb kind 0) refl (chosen Kept (eqb kind 6) refl
+      (chosen Kept (eqb kind 7) refl (chosen Kept (eqb kind 8) refl refl))))
+
+  -- one more exactly if it is not good
+  pub command-mismatches : commanded r kind a b .counts .mismatches
+      ≡ cond (good r kind a b) (r .counts .mismatches) (raised (r .counts .mismatches))
+  unfolding commanded afterJudging
+  command-mismatches =
+      judged-mismatches (eqb kind 7) (good r kind a b) (done r kind a b .counts)
+      ∙ ap (λ (n : ℕ). cond (good r kind a b) n (raised n)) done-keeps
+
+-- a step before the end is good exactly if it agrees
+pub step-good : (r : Replay) (a b : ℕ) → r .counts .ended ≡ false → good r 7 a b ≡ stepAgrees (r .expected) b (r .model) a
+unfolding good
+step-good r a b e = simp e
+
+pub step-mismatches : (r : Replay) (a b : ℕ) → r .counts .ended ≡ false
+    → commanded r 7 a b .counts .mismatches
+    ≡ cond (stepAgrees (r .expected) b (r .model) a) (r .counts .mismatches) (raised (r .counts .mismatches))
+step-mismatches r a b e =
+    command-mismatches r 7 a b
+    ∙ ap (λ (t : Bool). cond t (r .counts .mismatches) (raised (r .counts .mismatches))) (step-good r a b e)
+
+-- ---- no mismatch
+
+raised-positive : (n : ℕ) → 0 < raised n
+raised-positive n = below-or-not n 4294967295 (λ h. rw (sym (raised-more n h)) (omega arith)) (λ h. rw (sym (raised-most n h)) (omega arith))
+
+none-left : (t : Bool) (n : ℕ) → cond t n (raised n) ≡ 0 → (t ≡ true) × (n ≡ 0)
+none-left true n e = (refl, e)
+none-left false n e = absurd (omega (arith, raised-positive n, e))
+
+both-true : {t u : Bool} → t ≡ true → u ≡ true → both t u ≡ true
+both-true {t} {u} e f = rw (e, f)
+
+-- after the commands there is none: so there was none before them, and each was good
+pub none-from : (n : ℕ) (s : List ℕ) (at : ℕ) (r : Replay) → replayedFrom n s at r .counts .mismatches ≡ 0
+    → (allGoodFrom n s at r ≡ true) × (r .counts .mismatches ≡ 0)
+unfolding replayedFrom allGoodFrom goodAt commandedAt
+none-from zero s at r e = (refl, e)
+none-from (suc n) s at r e =
+    let (rest, after) = none-from n s (at + 8) (commandedAt s at r) e in
+    let (here, before) = none-left (goodAt s at r) (r .counts .mismatches) (sym (command-mismatches r _ _ _) ∙ after) in
+    (both-true here rest, before)
+
+-- where each is good, the count stays
+pub good-from : (n : ℕ) (s : List ℕ) (at : ℕ) (r : Replay) → allGoodFrom n s at r ≡ true
+    → replayedFrom n s at r .counts .mismatches ≡ r .counts .mismatches
+unfolding replayedFrom allGoodFrom goodAt commandedAt
+good-from zero s at r e = refl
+good-from (suc n) s at r e =
+    let (here, rest) = both-hold (goodAt s at r) _ e in
+    good-from n s (at + 8) (commandedAt s at r) rest
+    ∙ command-mismatches r _ _ _
+    ∙ ap (λ (t : Bool). cond t (r .counts .mismatches) (raised (r .counts .mismatches))) here
+
+-- a part of the file
+pub none-in-part : (s : List ℕ) (r : Replay) → replayed s r .counts .mismatches ≡ 0
+    → (length s % 8 ≡ 0) × (allGoodFrom (length s / 8) s 0 r ≡ true) × (r .counts .mismatches ≡ 0)
+unfolding replayed afterJudging
+none-in-part s r e =
+    let (whole, after) = none-left (eqb (length s % 8) 0) _ (sym (judged-mismatches false (eqb (length s % 8) 0) _) ∙ e) in
+    let (all, before) = none-from (length s / 8) s 0 r after in
+    (eqb-true _ _ whole, all, before)
+
+-- the whole file: its end was read
+pub none-in-file : (c : Counts) → finished c .mismatches ≡ 0 → (c .ended ≡ true) × (c .mismatches ≡ 0)
+unfolding finished
+none-in-file c e = none-left (c .ended) (c .mismatches) (sym (judged-mismatches false (c .ended) c) ∙ e)
