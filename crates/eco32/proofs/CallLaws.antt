@@ -1,21 +1,22 @@
 -- The exported runs, by the tests of the code.
 use mathlib.Core.Path.{_≡_, refl, ap, sym, subst, _∙_}
-use mathlib.Core.Bool.{Bool, true, false}
+use mathlib.Core.Bool.{Bool, true, false, cond}
 use mathlib.Core.List.{List}
 use Prim.Native.Nat.{ℕ, _≤_, _<_}
 use native.Mathlib.Omega.{arith}
-use lib.Dec.{leb}
-use lib.ListN.{length}
-use borrow.Author.Tests.{eq-eqb, ne-eqb, leb-true}
+use lib.Dec.{leb, eqb}
+use lib.ListN.{length, getD}
+use borrow.Author.Tests.{eq-eqb, ne-eqb, eqb-true, leb-true}
 use Rattle.memory.specs.Map.{Memory}
 use Rattle.processor.specs.declared.Processor.{Processor}
 use Rattle.processor.proofs.FitLaws.{Fit, fit-means}
 use Rattle.record.specs.Record.{recordOf, processorOf}
 use Rattle.record.specs.Calls.{readRefusal, processorRead}
 use Rattle.record.proofs.Answers.{accepted-means, read-accepted}
+use Rattle.record.proofs.ReadWritten.{read-written}
 use Rattle.machine.specs.State.{Machine}
-use Rattle.runs.specs.Refusal.{check, memoryChecked, stepsChecked}
-use Rattle.runs.specs.Run.{Outcome, runFrom}
+use Rattle.runs.specs.Refusal.{check, ramAccepted, romAccepted, beltAccepted, lengthsChecked, memoryChecked, stepsChecked}
+use Rattle.runs.specs.Run.{answer, Outcome, runFrom}
 use Rattle.runs.proofs.Checks.{lengths-refused, lengths-passed}
 use Rattle.runs.proofs.RunFit.{run-fit}
 use Rattle.eco32.specs.Records.{recordChecked}
@@ -100,3 +101,26 @@ check-within false e = absurd (omega arith)
 pub steps-within : (wanted r : ℕ) → r ≡ stepsChecked wanted → r ≡ 0 → wanted ≤ 1000000
 unfolding stepsChecked
 steps-within wanted r e h = leb-true wanted 1000000 (check-within (leb wanted 1000000) (sym e ∙ h))
+
+-- ---- zero steps change nothing
+
+accepted-record : (a b c : Bool) (q rest : ℕ) → check a 1 (check b 2 (check c 3 (cond (eqb q 0) rest q))) ≡ 0 → q ≡ 0
+accepted-record true true true q rest e = go (eqb q 0) refl e
+  where
+    go : (t : Bool) → eqb q 0 ≡ t → cond t rest q ≡ 0 → q ≡ 0
+    go true f h = eqb-true q 0 f
+    go false f h = h
+accepted-record true true false q rest e = absurd (omega arith)
+accepted-record true false c q rest e = absurd (omega arith)
+accepted-record false b c q rest e = absurd (omega arith)
+
+pub no-steps : (kind : Bool) (s : List ℕ) (m : Memory) (lines : ℕ) → ((j : ℕ) → getD s j 0 < 256) → callRefusal s m 0 ≡ 0
+    → callOf kind s m 0 lines ≡ called s m 0 0 32
+unfolding callOf callRefusal recordChecked lengthsChecked runFrom
+no-steps kind s m lines bytes e =
+    let fine : readRefusal s ≡ 0 = accepted-record (ramAccepted (length (m .ram))) (romAccepted (length (m .rom))) (beltAccepted (length (m .belt)))
+    (readRefusal s) (stepsChecked 0) e in
+    let means = accepted-means s fine in
+    let same : recordOf (processorOf s) ≡ s =
+    ap recordOf (read-accepted s (means .0) (means .1) (means .2) .1) ∙ read-written s bytes fine in
+    rw e (λ i. record { buffer = same i; memory = m; answer = answer 0 0 32 })

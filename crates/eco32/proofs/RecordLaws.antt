@@ -1,9 +1,11 @@
 -- The calls on records, by the tests of the code.
 use mathlib.Core.Path.{_≡_, refl, ap, sym, subst, _∙_}
+use mathlib.Core.Bool.{Bool, true, false, cond}
 use mathlib.Core.List.{List}
 use Prim.Native.Nat.{ℕ, _<_}
 use native.Mathlib.Omega.{arith}
-use lib.ListN.{length}
+use lib.Dec.{eqb}
+use lib.ListN.{length, getD}
 use borrow.Author.Tests.{eq-eqb, ne-eqb}
 use Rattle.processor.specs.declared.Processor.{Processor}
 use Rattle.processor.specs.State.{atReset}
@@ -11,6 +13,7 @@ use Rattle.processor.proofs.FitLaws.{fit-means}
 use Rattle.record.specs.Record.{recordOf}
 use Rattle.record.specs.Calls.{readRefusal, processorRead}
 use Rattle.record.proofs.Answers.{read-fit}
+use Rattle.record.proofs.ReadWritten.{read-written}
 use Rattle.eco32.specs.Records.{bufferChecked, resetRefusal, resetBuffer, copyRefusal, copyBuffer}
 
 -- ---- reset
@@ -58,8 +61,24 @@ module _ (s t : List ℕ) where
       rw (← e) (simp (eq-eqb (length s) 414 h, eq-eqb (length t) 414 k, eq-eqb r 0 accepted) (ap recordOf f)),
     )
 
+-- an accepted copy is of an accepted record
+accepted-source : (a b : Bool) (r : ℕ) → cond a (cond b r 4) 4 ≡ 0 → r ≡ 0
+accepted-source true true r e = e
+accepted-source true false r e = absurd (omega arith)
+accepted-source false b r e = absurd (omega arith)
+
+copy-accepted : (s t : List ℕ) → copyRefusal s t ≡ 0 → readRefusal s ≡ 0
+unfolding copyRefusal bufferChecked
+copy-accepted s t e = accepted-source (eqb (length s) 414) (eqb (length t) 414) (readRefusal s) e
+
 -- a machine that was read has an index that fits in its byte
 pub read-index : (s : List ℕ) (p : Processor) → p ≡ processorRead s → p .replacement < 256
 read-index s p e =
     let most = fit-means (processorRead s) (read-fit s) .upto in
     omega (arith, most, ap (λ (q : Processor). q .replacement) e)
+
+-- ---- what is read or written is the source's bytes
+
+pub copied-same : (s t : List ℕ) → ((j : ℕ) → getD s j 0 < 256) → copyRefusal s t ≡ 0 → copyBuffer s t ≡ s
+unfolding copyBuffer
+copied-same s t bytes e = rw e (read-written s bytes (copy-accepted s t e))

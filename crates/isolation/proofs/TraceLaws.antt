@@ -11,12 +11,12 @@ use Rattle.runs.specs.Run.{Outcome, outcome, ends, runFrom}
 use Rattle.isolation.specs.Trace.{traceFrom}
 
 -- the last machine of a trace from m on
-lastFrom : Machine → List Machine → Machine
+unfoldable pub lastFrom : Machine → List Machine → Machine
 lastFrom m [] = m
 lastFrom m (n ∷ ns) = lastFrom n ns
 
 module _ (kind : Bool) (lines : ℕ) where
-  abbrev Ran : Machine → ℕ → List Machine → Outcome → Type 0
+  abbrev pub Ran : Machine → ℕ → List Machine → Outcome → Type 0
   Ran m made trace o = (made + length trace ≡ o .answer .steps) × (lastFrom m trace ≡ o .machine)
 
   pub trace-of-the-run : (n made : ℕ) (m : Machine) → Ran m made (traceFrom kind n m lines) (runFrom kind n made m lines)
@@ -27,6 +27,5 @@ module _ (kind : Bool) (lines : ℕ) where
       go : (t : Bool) → Ran (stepOf m lines) (suc made) (traceFrom kind n (stepOf m lines) lines) (runFrom kind n (suc made) (stepOf m lines) lines)
           → Ran m made (stepOf m lines ∷ cond t [] (traceFrom kind n (stepOf m lines) lines))
           (cond t (outcome (stepOf m lines) 0 (suc made) (stepEid m lines)) (runFrom kind n (suc made) (stepOf m lines) lines))
-      unfolding lastFrom
       go true rest = (omega arith, refl)
       go false rest = (omega (arith, rest .0), rest .1)

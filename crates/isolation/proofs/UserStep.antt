@@ -25,6 +25,7 @@ use Rattle.transfer.specs.declared.Read.{Read}
 use Rattle.transfer.specs.declared.Read.the-variants.{Value, Fault}
 use Rattle.machine.specs.State.{Machine}
 use Rattle.machine.specs.Step.{surroundingsOf, operandsOf, decoded, lookFrom, look, storeWidth, processorAfter, memoryDone, done, stepOf, stepEid, eidOf}
+use Rattle.machine.proofs.Looks.{step-done}
 use Rattle.isolation.specs.Frames.{frameAt, lowWord, ValidUserPage, Reached, ReachedWritable, SameIn}
 use Rattle.isolation.specs.Trace.{inUserMode}
 use Rattle.isolation.specs.Claim.{Specials, specialsOf, Left, Held, Alike}
@@ -140,8 +141,10 @@ module _ (start m : Machine) (held : Held start m) (user : inUserMode m ≡ true
           eid = eid;
           address = address;
           unused = unused;
+          user = user;
           kept = held .staying user;
           named = e;
+          step = sym (step-done m lines (Exception eid address unused) e);
           processor = refl;
           specials = ap (enteredSpecials eid address) (held .staying user);
         };

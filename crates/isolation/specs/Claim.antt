@@ -8,7 +8,7 @@ use Rattle.processor.specs.declared.Processor.{Processor}
 use Rattle.processor.specs.Exception.{entered}
 use Rattle.instructions.specs.declared.Action.the-variants.{Exception}
 use Rattle.machine.specs.State.{Machine, Representable}
-use Rattle.machine.specs.Step.{look}
+use Rattle.machine.specs.Step.{look, stepOf}
 use Rattle.isolation.specs.Frames.{frameAt, Reached, ReachedWritable, SameIn}
 use Rattle.words.specs.Lists.{Every, Pairwise}
 use Rattle.isolation.specs.Trace.{Call, inUserMode, traceOf, upToLeaving, answersOf}
@@ -33,16 +33,18 @@ specialsOf p =
 
 -- ---- integrity
 
--- right after the leaving step: a step of a machine with the start's special registers named an exception, and they are what entry makes
--- of them
+-- right after the leaving step: it was made from a machine in User Mode with the start's special registers, it named an exception, and they
+-- are what entry makes of them
 pub record Left (start m : Machine) : Type 0 where
   pub before : Machine
   pub lines : ℕ
   pub eid : ℕ
   pub address : ℕ
   pub unused : ℕ
+  pub user : inUserMode before ≡ true
   pub kept : specialsOf (before .processor) ≡ specialsOf (start .processor)
   pub named : look before lines ≡ Exception eid address unused
+  pub step : m ≡ stepOf before lines
   pub processor : m .processor ≡ entered (before .processor) eid address
   pub specials : specialsOf (m .processor) ≡ specialsOf (entered (start .processor) eid address)
 

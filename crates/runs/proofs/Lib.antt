@@ -4,3 +4,4 @@ pub mod Loop
 pub mod RunRepresentable
 pub mod RunFit
 pub mod RunLaws
+pub mod Causes

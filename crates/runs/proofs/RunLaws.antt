@@ -83,3 +83,16 @@ module _ (lines : ℕ) where
       case (λ (o : Outcome). 32 ≤ o .answer .eid → o .answer .steps ≡ made + suc n) (ends toException (stepEid m lines))
       (λ last k. absurd (omega (arith, stops m last)))
       (λ on k. omega (arith, rest k)) h
+
+  -- none of them accepted an exception
+  pub quiet-without-exception : (n made : ℕ) (m : Machine) → 32 ≤ runFrom toException n made m lines .answer .eid
+      → (i : ℕ) → i < n → 32 ≤ stepEid (stateAfter i m lines) lines
+  unfolding runFrom stateAfter
+  quiet-without-exception zero made m h i k = absurd (omega arith)
+  quiet-without-exception (suc n) made m h zero k =
+      case (λ (o : Outcome). 32 ≤ o .answer .eid → 32 ≤ stepEid m lines) (ends toException (stepEid m lines)) (λ _ l. l) (λ on _. goes-on m on) h
+  quiet-without-exception (suc n) made m h (suc i) k =
+      let rest = quiet-without-exception n (suc made) (stepOf m lines) in
+      case (λ (o : Outcome). 32 ≤ o .answer .eid → 32 ≤ stepEid (stateAfter i (stepOf m lines) lines) lines) (ends toException (stepEid m lines))
+      {y = runFrom toException n (suc made) (stepOf m lines) lines}
+      (λ last l. absurd (omega (arith, stops m last, l))) (λ on l. rest l i (omega arith)) h
