@@ -7,8 +7,11 @@
 #![forbid(unsafe_code)]
 
 pub mod asm;
+pub mod belt;
+pub mod builder;
 pub mod exception;
 pub mod host;
+pub mod listing;
 pub mod memory;
 pub mod mmu;
 pub mod processor;
