@@ -1,4 +1,7 @@
 /* Written by belt_image from reference/src/belt: what a host has to know of the image. */
+#ifndef BELT_IMAGE_H
+#define BELT_IMAGE_H
+
 #include <stdint.h>
 
 #define BELT_RAM_LENGTH 0x4000
@@ -64,3 +67,5 @@ static const struct attempt {
     {0x00010174, 20, "TRAP with a report that is none"},
     {0xE00000DC, 25, "jump to the stock routine, E00000DC"},
 };
+
+#endif

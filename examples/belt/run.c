@@ -139,7 +139,8 @@ static void tell_kernel(const struct cell *c, const struct seen *s)
     for (uint32_t n = 0; n < s->faults; n++)
         need(word(kernel + BELT_LOG + 16 * n) == attempts[n].eid
              && word(kernel + BELT_LOG + 16 * n + 4) == attempts[n].address, "the log has this fault");
-    printf("count's frame: packs %" PRIu32 ", rejects %" PRIu32 "\n", word(count + BELT_PACKS), word(count + BELT_REJECTS));
+    printf("count's frame: packs %" PRIu32 ", rejects %" PRIu32 "\n", word(count + BELT_PACKS),
+           word(count + BELT_REJECTS));
     need(word(count + BELT_PACKS) == c->packs, "each pack was counted");
 }
 
@@ -149,7 +150,8 @@ static void tell_twin(const struct cell *c, const struct seen *s)
     need(s->faults == ATTEMPTS, "every attempt ended in a fault");
     need(memcmp(count, s->count_before, sizeof s->count_before) == 0, "the count's frame is untouched");
     printf("twin: %zu attempts, each ended in the fault that the manual names\n", ATTEMPTS);
-    printf("twin: rejects before the first %" PRIu32 ", after the last %" PRIu32 "; the frame's 4,096 bytes are equal\n",
+    printf("twin: rejects before the first %" PRIu32 ", after the last %" PRIu32
+           "; the frame's 4,096 bytes are equal\n",
            word(s->count_before + BELT_REJECTS), word(count + BELT_REJECTS));
     need(word(page(c, BELT_OWN_PAGE) + BELT_OWN_LOADED) == 0xFFFFFFFF, "nothing was loaded");
     printf("twin: the register of its loads was FFFFFFFF before them, and is after them\n");

@@ -70,7 +70,7 @@ impl Images {
     fn header(&self) -> String {
         let mut all = String::from(
             "/* Written by belt_image from reference/src/belt: what a host has to know of the image. */\n\
-             #include <stdint.h>\n\n",
+             #ifndef BELT_IMAGE_H\n#define BELT_IMAGE_H\n\n#include <stdint.h>\n\n",
         );
         for (name, value) in constants() {
             all += &format!("#define BELT_{name} 0x{value:X}\n");
@@ -84,7 +84,7 @@ impl Images {
             let Attempt { address, eid, .. } = attempt;
             all += &format!("    {{0x{address:08X}, {eid}, \"{}\"}},\n", attempt.what);
         }
-        all + "};\n"
+        all + "};\n\n#endif\n"
     }
 }
 
