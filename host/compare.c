@@ -1,0 +1,35 @@
+#include "compare.h"
+
+#include "say.h"
+
+#include <inttypes.h>
+#include <stdio.h>
+
+int compare_read(const struct options *options, const struct world *world, struct pairs *words)
+{
+    static const struct pair_form form = {1, UINT32_MAX, UINT32_MAX,
+                                          "not a line \"ADDRESS VALUE\", both hexadecimal up to FFFFFFFF"};
+    const char *path = options->given[OPTION_COMPARE];
+    int status = path == NULL ? STATUS_GOOD : pairs_read(path, &form, words);
+
+    for (size_t i = 0; status == STATUS_GOOD && i < words->count; i++)
+        if (world_word(world, words->at[i].first) == NULL)
+            status = say_bad_line(path, words->at[i].line, "no word of RAM, ROM or belt has that address");
+    return status;
+}
+
+int compare(const struct world *world, const struct pairs *words)
+{
+    size_t differ = 0;
+
+    for (size_t i = 0; i < words->count; i++) {
+        uint64_t model = word_at(world_word(world, words->at[i].first));
+        if (model == words->at[i].second)
+            continue;
+        printf("%08" PRIX64 ": model %08" PRIX64 ", given %08" PRIX64 "\n", words->at[i].first, model,
+               words->at[i].second);
+        differ++;
+    }
+    printf("words compared %zu, differ %zu\n", words->count, differ);
+    return differ == 0 ? STATUS_GOOD : STATUS_DIFFERS;
+}

@@ -1,0 +1,150 @@
+#include "files.h"
+#include "say.h"
+#include "world.h"
+
+#define ROM_BEGINS 0x20000000
+#define BELT_BEGINS 0x30500000
+
+/* An image's length with the zeros behind it. */
+static size_t padded(size_t length)
+{
+    size_t frames = (length + ECO32_FRAME_LENGTH - 1) / ECO32_FRAME_LENGTH;
+
+    return (frames == 0 ? 1 : frames) * ECO32_FRAME_LENGTH;
+}
+
+/* A file that is too long is not read, so the host itself names the library's cause. */
+static int read_refused(const char *path, size_t most, uint32_t refusal, struct bytes *bytes)
+{
+    int status = file_read(path, most, bytes);
+
+    return status == FILE_LONGER ? say_refused(path, refusal) : status;
+}
+
+static int grow(struct bytes *bytes, size_t length)
+{
+    return bytes_grow(bytes, length) ? STATUS_GOOD : say_no_memory();
+}
+
+static int make_rom(const struct options *options, struct world *world)
+{
+    int status = read_refused(options->rom, ECO32_ROM_MOST, ECO32_REFUSED_ROM_LENGTH, &world->rom);
+
+    return status == STATUS_GOOD ? grow(&world->rom, padded(world->rom.length)) : status;
+}
+
+/* RAM of the size that was asked for, be it one that the library refuses. */
+static int make_sized_ram(const struct options *options, struct world *world)
+{
+    size_t size = (size_t)options->ram_size;
+    int status = STATUS_GOOD;
+
+    if (options->ram_size > ECO32_RAM_MOST)
+        return say_refused("--ram-size", ECO32_REFUSED_RAM_LENGTH);
+    if (options->ram != NULL)
+        status = file_read(options->ram, size, &world->ram);
+    if (status == FILE_LONGER)
+        return say_bad(options->ram, "longer than --ram-size");
+    return status == STATUS_GOOD ? grow(&world->ram, size) : status;
+}
+
+static int make_ram(const struct options *options, struct world *world)
+{
+    int status = STATUS_GOOD;
+
+    if (options->given[OPTION_RAM_SIZE] != NULL)
+        return make_sized_ram(options, world);
+    if (options->ram != NULL)
+        status = read_refused(options->ram, ECO32_RAM_MOST, ECO32_REFUSED_RAM_LENGTH, &world->ram);
+    return status == STATUS_GOOD ? grow(&world->ram, padded(world->ram.length)) : status;
+}
+
+static int make_belt(const struct options *options, struct world *world)
+{
+    const char *path = options->given[OPTION_BELT];
+
+    if (path == NULL)
+        return grow(&world->belt, ECO32_BELT_LENGTH);
+    return read_refused(path, ECO32_BELT_LENGTH, ECO32_REFUSED_BELT_LENGTH, &world->belt);
+}
+
+static int make_machine(const struct options *options, struct world *world)
+{
+    const char *path = options->given[OPTION_LOAD];
+    struct bytes record = {NULL, 0};
+    uint32_t refusal;
+    int status;
+
+    if (path == NULL) {
+        refusal = eco32_reset(world->machine, sizeof world->machine);
+        return refusal == ECO32_ACCEPTED ? STATUS_GOOD : say_refused("reset", refusal);
+    }
+    status = read_refused(path, ECO32_RECORD_LENGTH, ECO32_REFUSED_RECORD_LENGTH, &record);
+    if (status == STATUS_GOOD) {
+        refusal = eco32_read_record(record.at, record.length, world->machine, sizeof world->machine);
+        if (refusal != ECO32_ACCEPTED)
+            status = say_refused(path, refusal);
+    }
+    bytes_free(&record);
+    return status;
+}
+
+int world_make(const struct options *options, struct world *world)
+{
+    int status = make_rom(options, world);
+
+    if (status == STATUS_GOOD)
+        status = make_ram(options, world);
+    if (status == STATUS_GOOD)
+        status = make_belt(options, world);
+    if (status == STATUS_GOOD)
+        status = make_machine(options, world);
+    return status;
+}
+
+static int write_machine(const char *path, const struct world *world)
+{
+    uint8_t record[ECO32_RECORD_LENGTH];
+    uint32_t refusal = eco32_write_record(world->machine, sizeof world->machine, record, sizeof record);
+
+    return refusal == ECO32_ACCEPTED ? file_write(path, record, sizeof record) : say_refused(path, refusal);
+}
+
+int world_write(const struct options *options, const struct world *world)
+{
+    const char *save = options->given[OPTION_SAVE];
+    const char *belt = options->given[OPTION_BELT_OUT];
+    const char *ram = options->given[OPTION_RAM_OUT];
+    int status = STATUS_GOOD;
+
+    if (save != NULL)
+        status = write_machine(save, world);
+    if (status == STATUS_GOOD && belt != NULL)
+        status = file_write(belt, world->belt.at, world->belt.length);
+    if (status == STATUS_GOOD && ram != NULL)
+        status = file_write(ram, world->ram.at, world->ram.length);
+    return status;
+}
+
+void world_free(struct world *world)
+{
+    bytes_free(&world->ram);
+    bytes_free(&world->rom);
+    bytes_free(&world->belt);
+}
+
+static const uint8_t *word_in(const struct bytes *bytes, uint64_t begins, uint64_t physical)
+{
+    if (physical % 4 != 0 || physical < begins || bytes->length < 4 || physical - begins > bytes->length - 4)
+        return NULL;
+    return bytes->at + (physical - begins);
+}
+
+const uint8_t *world_word(const struct world *world, uint64_t physical)
+{
+    const uint8_t *word = word_in(&world->ram, 0, physical);
+
+    if (word == NULL)
+        word = word_in(&world->rom, ROM_BEGINS, physical);
+    return word == NULL ? word_in(&world->belt, BELT_BEGINS, physical) : word;
+}

@@ -1,0 +1,36 @@
+/* Text files of lines with two numbers. Blank lines do not count, nor anything from # to the end of a line. */
+#ifndef HOST_PAIRS_H
+#define HOST_PAIRS_H
+
+#include <stddef.h>
+#include <stdint.h>
+
+/* The longest text file that is read. */
+#define TEXT_MOST 16777216
+
+struct pair {
+    size_t line; /* for messages; from 1 */
+    uint64_t first;
+    uint64_t second;
+};
+
+struct pairs {
+    struct pair *at;
+    size_t count;
+};
+
+/* What a line has to be; `says` is the message if it is not. */
+struct pair_form {
+    int first_is_hex; /* else decimal; the second is always hexadecimal */
+    uint64_t first_most;
+    uint64_t second_most;
+    const char *says;
+};
+
+/* Reads a file; failures are told, the answer is an exit status. `pairs` has to be empty before, and is the
+ * caller's to free after, whatever the answer. */
+int pairs_read(const char *path, const struct pair_form *form, struct pairs *pairs);
+
+void pairs_free(struct pairs *pairs);
+
+#endif

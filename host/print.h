@@ -1,0 +1,14 @@
+/* What is shown of a world after a run. */
+#ifndef HOST_PRINT_H
+#define HOST_PRINT_H
+
+#include "world.h"
+
+void print_registers(const uint8_t *machine);
+
+void print_tlb(const uint8_t *machine);
+
+/* A refusal is told; the answer is an exit status. */
+int print_view(const struct world *world, uint64_t page);
+
+#endif

@@ -1,0 +1,66 @@
+#include "state.h"
+
+#include "bytes.h"
+
+/* Where each item's body begins: one behind its kind byte. */
+#define REGISTERS_AT 1
+#define PC_AT 130
+#define SPECIALS_AT 135
+#define TLB_AT 156
+#define REPLACEMENT_AT 413
+
+#define PSW_USER_MODE 0x04000000
+
+uint32_t state_register(const uint8_t *machine, unsigned number)
+{
+    return word_at(machine + REGISTERS_AT + 4 * number);
+}
+
+uint32_t state_pc(const uint8_t *machine)
+{
+    return word_at(machine + PC_AT);
+}
+
+uint32_t state_special(const uint8_t *machine, enum special special)
+{
+    return word_at(machine + SPECIALS_AT + 4 * (unsigned)special);
+}
+
+uint32_t state_tlb_high(const uint8_t *machine, unsigned slot)
+{
+    return word_at(machine + TLB_AT + 8 * slot);
+}
+
+uint32_t state_tlb_low(const uint8_t *machine, unsigned slot)
+{
+    return word_at(machine + TLB_AT + 8 * slot + 4);
+}
+
+uint32_t state_replacement(const uint8_t *machine)
+{
+    return machine[REPLACEMENT_AT];
+}
+
+char state_mode(const uint8_t *machine)
+{
+    return state_special(machine, SPECIAL_PSW) & PSW_USER_MODE ? 'U' : 'K';
+}
+
+const char *special_name(enum special special)
+{
+    static const char *const names[SPECIAL_COUNT] = {"PSW", "Index", "EntryHigh", "EntryLow", "BadAddress"};
+
+    return names[special];
+}
+
+const char *exception_name(uint32_t eid)
+{
+    static const char *const names[] = {
+        "bus timeout", "illegal instruction", "privileged instruction", "division by zero", "trap",
+        "TLB miss", "TLB write", "TLB invalid", "illegal address", "privileged address",
+    };
+
+    if (eid < 16)
+        return "interrupt";
+    return eid - 16 < sizeof names / sizeof names[0] ? names[eid - 16] : "unknown";
+}

@@ -1,0 +1,28 @@
+/* What is lent to the model: the machine, RAM, ROM and the belt. */
+#ifndef HOST_WORLD_H
+#define HOST_WORLD_H
+
+#include "bytes.h"
+#include "eco32.h"
+#include "options.h"
+
+struct world {
+    uint8_t machine[ECO32_RECORD_LENGTH];
+    struct bytes ram;
+    struct bytes rom;
+    struct bytes belt;
+};
+
+/* Makes what the options say. Failures are told; the answer is an exit status. `world` is the caller's to free
+ * after, whatever the answer. */
+int world_make(const struct options *options, struct world *world);
+
+/* Writes the files that the options name. Failures are told; the answer is an exit status. */
+int world_write(const struct options *options, const struct world *world);
+
+void world_free(struct world *world);
+
+/* The word at a physical address, or null where no word of RAM, ROM or belt is. */
+const uint8_t *world_word(const struct world *world, uint64_t physical);
+
+#endif
