@@ -14,7 +14,8 @@ use Rattle.processor.specs.State.{atReset, fit}
 use Rattle.machine.specs.State.{Machine, machine}
 use Rattle.record.specs.Record.{recordOf}
 use Rattle.record.specs.Calls.{processorRead, writeRefusal, bufferAfter}
-use Rattle.replay.specs.Bytes.{sameBytes, copied, fits, patch}
+use Rattle.slices.specs.Same.{same}
+use Rattle.replay.specs.Bytes.{copied, fits, patch}
 use Rattle.replay.specs.Expected.{Expected, expected, recordAgrees, memoryAgrees, agrees, clear, patchFits, patched, startedIn}
 
 -- ---- the record
@@ -39,26 +40,26 @@ module _ (bytes : List ℕ) (p : Processor) (s : List ℕ) (refusal : ℕ) (e : 
   unfolding bufferAfter
   written-is none = rw (← e, none)
 
-  pub record-compared : (written : List ℕ) (v : Bool) → refusal ≡ 0 → written ≡ bufferAfter p s → v ≡ sameBytes written bytes
+  pub record-compared : (written : List ℕ) (v : Bool) → refusal ≡ 0 → written ≡ bufferAfter p s → v ≡ same written bytes
       → v ≡ recordAgrees bytes p
   unfolding recordAgrees writeRefusal
   record-compared written v none f h =
-      h ∙ ap (λ (l : List ℕ). sameBytes l bytes) (f ∙ written-is none)
-      ∙ sym (ap (λ (t : Bool). both t (sameBytes (recordOf p) bytes)) (fit-written (eqb (length s) 414) (fit p) e none))
+      h ∙ ap (λ (l : List ℕ). same l bytes) (f ∙ written-is none)
+      ∙ sym (ap (λ (t : Bool). both t (same (recordOf p) bytes)) (fit-written (eqb (length s) 414) (fit p) e none))
 
 -- ---- the memory
 
 module _ (x m : Memory) where
-  pub ram-differs : sameBytes (m .ram) (x .ram) ≡ false → false ≡ memoryAgrees x m
+  pub ram-differs : same (m .ram) (x .ram) ≡ false → false ≡ memoryAgrees x m
   unfolding memoryAgrees
   ram-differs e = rw e
 
-  pub rom-differs : sameBytes (m .ram) (x .ram) ≡ true → sameBytes (m .rom) (x .rom) ≡ false → false ≡ memoryAgrees x m
+  pub rom-differs : same (m .ram) (x .ram) ≡ true → same (m .rom) (x .rom) ≡ false → false ≡ memoryAgrees x m
   unfolding memoryAgrees
   rom-differs e f = rw (e, f)
 
-  pub belt-decides : (v : Bool) → sameBytes (m .ram) (x .ram) ≡ true → sameBytes (m .rom) (x .rom) ≡ true
-      → v ≡ sameBytes (m .belt) (x .belt) → v ≡ memoryAgrees x m
+  pub belt-decides : (v : Bool) → same (m .ram) (x .ram) ≡ true → same (m .rom) (x .rom) ≡ true
+      → v ≡ same (m .belt) (x .belt) → v ≡ memoryAgrees x m
   unfolding memoryAgrees
   belt-decides v e f h = rw (e, f) h
 

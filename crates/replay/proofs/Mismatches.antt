@@ -13,11 +13,11 @@ use Rattle.processor.specs.State.{fit}
 use Rattle.machine.specs.State.{Machine}
 use Rattle.record.specs.Record.{recordOf}
 use Rattle.replay.specs.declared.tally.Counts.{Counts}
-use Rattle.replay.specs.Bytes.{sameBytes}
+use Rattle.slices.specs.Same.{same}
 use Rattle.replay.specs.Tally.{raised, caseBegun, stepMade, endRead, failed, judged}
 use Rattle.replay.specs.Expected.{Expected, recordAgrees, memoryAgrees, agrees, stepAgrees}
 use Rattle.replay.specs.Replay.{Replay, good, done, afterJudging, commanded, goodAt, commandedAt, replayedFrom, allGoodFrom, replayed, finished}
-use Rattle.replay.proofs.SliceLaws.{same-equal, same-self}
+use Rattle.slices.proofs.SameLaws.{same-equal, same-self}
 use Rattle.replay.proofs.TallyLaws.{raised-more, raised-most}
 
 both-hold : (t u : Bool) → both t u ≡ true → (t ≡ true) × (u ≡ true)
@@ -33,10 +33,10 @@ module _ (x : Expected) (wanted : ℕ) (m : Machine) (eid : ℕ) where
   unfolding agrees recordAgrees memoryAgrees
   agrees-says e =
       let (number, rest) = both-hold (eqb eid wanted) _ e in
-      let (bytes, memory) = both-hold (both (fit (m .processor)) (sameBytes (recordOf (m .processor)) (x .bytes))) _ rest in
+      let (bytes, memory) = both-hold (both (fit (m .processor)) (same (recordOf (m .processor)) (x .bytes))) _ rest in
       let (isFit, written) = both-hold (fit (m .processor)) _ bytes in
-      let (ram, others) = both-hold (sameBytes (m .memory .ram) (x .memory .ram)) _ memory in
-      let (rom, belt) = both-hold (sameBytes (m .memory .rom) (x .memory .rom)) _ others in
+      let (ram, others) = both-hold (same (m .memory .ram) (x .memory .ram)) _ memory in
+      let (rom, belt) = both-hold (same (m .memory .rom) (x .memory .rom)) _ others in
       (eqb-true eid wanted number, isFit, same-equal _ _ written, same-equal _ _ ram, same-equal _ _ rom, same-equal _ _ belt)
 
   pub says-agrees : eid ≡ wanted → fit (m .processor) ≡ true → recordOf (m .processor) ≡ x .bytes

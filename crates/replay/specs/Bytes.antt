@@ -1,18 +1,10 @@
--- Lists of bytes compared, copied and patched.
-use mathlib.Core.Bool.{Bool, true, false, cond}
-use mathlib.Core.List.{List, [], _∷_}
+-- Lists of bytes copied and patched.
+use mathlib.Core.Bool.{Bool, cond}
+use mathlib.Core.List.{List}
 use Prim.Native.Nat.{ℕ, _+_}
 use lib.Dec.{leb, eqb}
 use lib.ListN.{length}
-use Rattle.words.specs.Logic.{both}
 use Rattle.endian.specs.BigEndian.{writeAt}
-
--- whether two lists are equal
-unfoldable pub sameBytes : List ℕ → List ℕ → Bool
-sameBytes [] [] = true
-sameBytes [] (y ∷ b) = false
-sameBytes (x ∷ a) [] = false
-sameBytes (x ∷ a) (y ∷ b) = both (eqb x y) (sameBytes a b)
 
 -- the bytes of one list put over those of another; a list of another length is left as it is
 unfoldable pub copied : List ℕ → List ℕ → List ℕ

@@ -12,7 +12,8 @@ use Rattle.machine.specs.State.{Machine, machine}
 use Rattle.machine.specs.Step.{stepOf, stepEid}
 use Rattle.record.specs.Record.{recordOf}
 use Rattle.record.specs.Calls.{readRefusal, processorRead, bufferAfter}
-use Rattle.replay.specs.Bytes.{sameBytes, copied, fits, patch}
+use Rattle.slices.specs.Same.{same}
+use Rattle.replay.specs.Bytes.{copied, fits, patch}
 
 -- the bytes of the record, and memory
 pub record Expected : Type 0 where
@@ -26,11 +27,11 @@ expected bytes ram rom belt = record { bytes = bytes; memory = memory ram rom be
 
 -- a processor has a record, and it is this one
 unfoldable pub recordAgrees : List ℕ → Processor → Bool
-recordAgrees bytes p = both (fit p) (sameBytes (recordOf p) bytes)
+recordAgrees bytes p = both (fit p) (same (recordOf p) bytes)
 
 unfoldable pub memoryAgrees : Memory → Memory → Bool
 memoryAgrees x m =
-    both (sameBytes (m .ram) (x .ram)) (both (sameBytes (m .rom) (x .rom)) (sameBytes (m .belt) (x .belt)))
+    both (same (m .ram) (x .ram)) (both (same (m .rom) (x .rom)) (same (m .belt) (x .belt)))
 
 -- the expected EID, the record and all memory, against an EID and a machine
 unfoldable pub agrees : Expected → ℕ → Machine → ℕ → Bool

@@ -1,23 +1,7 @@
-// Byte slices compared, copied, cleared and patched.
+// Byte slices copied, cleared and patched.
 ghost use mathlib.Core.Path.{_≡_};
 ghost use lib.ListN.{length, replicate};
-ghost use Rattle.replay.specs.Bytes.{sameBytes, copied, fits, patch};
-
-pub fn same(a: &[u8], b: &[u8]) -> bool
-    ensures { λ r. ⌜ r ≡ sameBytes (now (a .entry)) (now (b .entry)) ⌝ }
-{
-    if a.len() != b.len() {
-        return false;
-    }
-    let mut i = 0;
-    while i < a.len() {
-        if a[i] != b[i] {
-            return false;
-        }
-        i += 1;
-    }
-    true
-}
+ghost use Rattle.replay.specs.Bytes.{copied, fits, patch};
 
 // A slice of another length is left as it is.
 pub fn copy(to: &mut [u8], from: &[u8])

@@ -49,7 +49,7 @@ fn record_agrees(p: Processor, xrecord: &[u8]) -> bool
     if refusal != 0 {
         return false;
     }
-    bytes::same(&written, xrecord)
+    slices::same_bytes(&written, xrecord)
 }
 
 fn memory_agrees(
@@ -62,13 +62,13 @@ fn memory_agrees(
 ) -> bool
     ensures { λ r. ⌜ r ≡ memoryAgrees (memory (now (xram .entry)) (now (xrom .entry)) (now (xbelt .entry))) (memory (now (ram .entry)) (now (rom .entry)) (now (belt .entry))) ⌝ }
 {
-    if !bytes::same(ram, xram) {
+    if !slices::same_bytes(ram, xram) {
         return false;
     }
-    if !bytes::same(rom, xrom) {
+    if !slices::same_bytes(rom, xrom) {
         return false;
     }
-    bytes::same(belt, xbelt)
+    slices::same_bytes(belt, xbelt)
 }
 
 // The EID, the record and all memory.

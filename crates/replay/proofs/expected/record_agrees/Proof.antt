@@ -15,14 +15,14 @@ write-requires c κs = search needs
 returns : tie.Need-returns
 returns c = no-record _ _ _ _ (c .before .before .write .ensures .0) refl (c .if1 .taken)
 
-slice-aggregate-same : tie.Need-slice-aggregate-same
-slice-aggregate-same c = search needs
+slice-aggregate-same-bytes : tie.Need-slice-aggregate-same-bytes
+slice-aggregate-same-bytes c = search needs
 
-same-requires : tie.Need-same-requires
-same-requires c κs = search needs
+same-bytes-requires : tie.Need-same-bytes-requires
+same-bytes-requires c κs = search needs
 
 returns-2 : tie.Need-returns-2
-returns-2 c = record-compared _ _ _ _ (c .before .before .before .before .write .ensures .0) _ _ (c .before .before .if1 .left) (c .before .before .before .before .write .ensures .1) (c .same .ensures)
+returns-2 c = record-compared _ _ _ _ (c .before .before .before .before .write .ensures .0) _ _ (c .before .before .if1 .left) (c .before .before .before .before .write .ensures .1) (c .same-bytes .ensures)
 
 pub record-agrees-spec : {M : Type 1} → statement M
 record-agrees-spec =
@@ -31,6 +31,6 @@ record-agrees-spec =
     slice-aggregate-write
     write-requires
     returns
-    slice-aggregate-same
-    same-requires
+    slice-aggregate-same-bytes
+    same-bytes-requires
     returns-2)

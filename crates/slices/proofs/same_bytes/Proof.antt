@@ -1,16 +1,16 @@
--- `replay::bytes::same` meets its contract, by the laws of SliceLaws.
+-- `slices::same_bytes` meets its contract, by the laws of SameLaws.
 use mathlib.Core.Path.{_≡_, refl, ap, sym, _∙_}
 use Prim.Native.Nat.{_-_, _≤_}
 use native.Mathlib.Omega.{arith}
 use lib.ListN.{length, drop}
 use denote.Ref.{now}
-use Rattle.replay.specs.Bytes.{sameBytes}
-use Rattle.replay.proofs.SliceLaws.{lengths-differ, same-more, same-stop, same-end}
-use Rattle.replay.proofs.bytes.same.Statement.{statement}
-use Rattle.replay.proofs.bytes.same.Tie as tie
+use Rattle.slices.specs.Same.{same}
+use Rattle.slices.proofs.SameLaws.{lengths-differ, same-more, same-stop, same-end}
+use Rattle.slices.proofs.same_bytes.Statement.{statement}
+use Rattle.slices.proofs.same_bytes.Tie as tie
 
 abbrev Inv-loop : tie.InvT-loop
-Inv-loop a b i₀ i = (i ≤ length a) × (sameBytes a b ≡ sameBytes (drop i a) (drop i b))
+Inv-loop a b i₀ i = (i ≤ length a) × (same a b ≡ same (drop i a) (drop i b))
 
 abbrev μ-loop : tie.MeasureT-loop
 μ-loop a b i₀ i = length a - i
@@ -42,8 +42,8 @@ loop-again c = (omega arith, c .before .before .before .before .loop .inv .1 ∙
 returns-3 : tie.Need-returns-3 Inv-loop μ-loop
 returns-3 c = sym (c .before .loop .inv .1 ∙ same-end (now (c .before .before .before .args .a)) (now (c .before .before .before .args .b)) (c .before .loop .i) (c .loop-test .left) (omega arith))
 
-pub same-spec : {M : Type 1} → statement M
-same-spec =
+pub same-bytes-spec : {M : Type 1} → statement M
+same-bytes-spec =
     tie.close
     (tie.spec
     Inv-loop

@@ -1,0 +1,2 @@
+-- The laws of `outcomes`.
+pub mod TestLaws

@@ -1,0 +1,32 @@
+-- Tests one after the other; a run by its outcome; and a processor that is the same by its items is equal.
+use mathlib.Core.Path.{_≡_, refl, ap, sym, _∙_}
+use mathlib.Core.Bool.{Bool, true, false}
+use mathlib.Core.List.{List}
+use Prim.Native.Nat.{ℕ}
+use lib.Dec.{eqb}
+use lib.ListN.{getD}
+use Rattle.words.specs.Logic.{both}
+use Rattle.slices.specs.Same.{same}
+use Rattle.processor.specs.declared.Processor.{Processor}
+use Rattle.machine.specs.State.{Machine}
+use Rattle.runs.specs.Run.{Answer, Outcome, answer, outcome}
+use Rattle.outcomes.specs.Unchanged.{sameProcessor, sameMachine}
+
+pub fails : {t : Bool} (u : Bool) → t ≡ false → false ≡ both t u
+fails {t} u e = rw e
+
+pub passes : {t u v : Bool} → t ≡ true → v ≡ u → v ≡ both t u
+passes {t} {u} {v} e f = rw e f
+
+module _ (m : Machine) (refusal steps eid : ℕ) (o : Outcome) (e : outcome m refusal steps eid ≡ o) where
+  pub run-answers : answer refusal steps eid ≡ o .answer
+  run-answers = ap (λ (q : Outcome). q .answer) e
+
+  pub run-register : getD (m .processor .registers) 1 0 ≡ getD (o .machine .processor .registers) 1 0
+  run-register = ap (λ (q : Outcome). getD (q .machine .processor .registers) 1 0) e
+
+  pub run-unchanged : (p : Processor) (ram belt : List ℕ) (v : Bool)
+      → v ≡ both (sameProcessor p (m .processor)) (both (same ram (m .memory .ram)) (same belt (m .memory .belt)))
+      → v ≡ sameMachine p ram belt (o .machine)
+  unfolding sameMachine
+  run-unchanged p ram belt v f = f ∙ ap (λ (q : Outcome). both (sameProcessor p (q .machine .processor)) (both (same ram (q .machine .memory .ram)) (same belt (q .machine .memory .belt)))) e

@@ -1,0 +1,2 @@
+-- The definitions of `outcomes`.
+pub mod Unchanged

@@ -1,0 +1,31 @@
+-- Whether a machine is one that is known, as a test.
+use mathlib.Core.Bool.{Bool}
+use mathlib.Core.List.{List}
+use Prim.Native.Nat.{ℕ}
+use lib.Dec.{eqb}
+use Rattle.words.specs.Logic.{both}
+use Rattle.slices.specs.Same.{same}
+use Rattle.processor.specs.declared.Processor.{Processor}
+use Rattle.machine.specs.State.{Machine}
+
+unfoldable pub sameSpecial : Processor → Processor → Bool
+sameSpecial p q =
+    both (eqb (p .psw) (q .psw))
+    (both (eqb (p .index) (q .index))
+    (both (eqb (p .entryhigh) (q .entryhigh))
+    (both (eqb (p .entrylow) (q .entrylow))
+    (eqb (p .badaddress) (q .badaddress)))))
+
+unfoldable pub sameTlb : Processor → Processor → Bool
+sameTlb p q =
+    both (same (p .tlbhigh) (q .tlbhigh)) (both (same (p .tlblow) (q .tlblow)) (eqb (p .replacement) (q .replacement)))
+
+-- the five items of the machine record
+unfoldable pub sameProcessor : Processor → Processor → Bool
+sameProcessor p q =
+    both (same (p .registers) (q .registers)) (both (eqb (p .pc) (q .pc)) (both (sameSpecial p q) (sameTlb p q)))
+
+-- the processor, RAM and belt; no call writes the ROM
+unfoldable pub sameMachine : Processor → List ℕ → List ℕ → Machine → Bool
+sameMachine p ram belt m =
+    both (sameProcessor p (m .processor)) (both (same ram (m .memory .ram)) (same belt (m .memory .belt)))

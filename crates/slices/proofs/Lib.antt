@@ -1,0 +1,2 @@
+-- The laws of `slices`.
+pub mod SameLaws

@@ -1,0 +1,2 @@
+-- The definitions of `slices`.
+pub mod Same
