@@ -1,2 +1,3 @@
--- The laws of `outcomes`.
+-- The laws of `outcomes`, in the order to read them.
 pub mod TestLaws
+pub mod Equal

@@ -1,15 +1,14 @@
--- Tests one after the other; a run by its outcome; and a processor that is the same by its items is equal.
-use mathlib.Core.Path.{_≡_, refl, ap, sym, _∙_}
+-- Tests one after the other, and a run by its outcome.
+use mathlib.Core.Path.{_≡_, ap, _∙_}
 use mathlib.Core.Bool.{Bool, true, false}
 use mathlib.Core.List.{List}
 use Prim.Native.Nat.{ℕ}
-use lib.Dec.{eqb}
 use lib.ListN.{getD}
 use Rattle.words.specs.Logic.{both}
 use Rattle.slices.specs.Same.{same}
 use Rattle.processor.specs.declared.Processor.{Processor}
 use Rattle.machine.specs.State.{Machine}
-use Rattle.runs.specs.Run.{Answer, Outcome, answer, outcome}
+use Rattle.runs.specs.Run.{Outcome, answer, outcome}
 use Rattle.outcomes.specs.Unchanged.{sameProcessor, sameMachine}
 
 pub fails : {t : Bool} (u : Bool) → t ≡ false → false ≡ both t u

@@ -67,14 +67,7 @@ pub fn run(
     let ran = run_of_kind(kind, p, ram, rom, belt, wanted);
     let after = ran.processor;
     let registers = after.registers;
-    let kept = unchanged::same_machine(
-        p,
-        ramcopy,
-        beltcopy,
-        after,
-        &ram[..],
-        &belt[..],
-    );
+    let kept = unchanged::same_machine(p, ramcopy, beltcopy, after, &ram[..], &belt[..]);
     Outcome {
         refusal: ran.refusal,
         steps: ran.steps,

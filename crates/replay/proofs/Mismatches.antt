@@ -2,7 +2,7 @@
 use mathlib.Core.Path.{_≡_, refl, ap, sym, _∙_}
 use mathlib.Core.Bool.{Bool, true, false, cond}
 use mathlib.Core.List.{List}
-use Prim.Native.Nat.{ℕ, zero, suc, _+_, _/_, _%_, _<_, _≤_}
+use Prim.Native.Nat.{ℕ, zero, suc, _+_, _/_, _%_, _<_}
 use native.Mathlib.Omega.{arith}
 use lib.Dec.{eqb}
 use lib.ListN.{length}
@@ -17,12 +17,8 @@ use Rattle.slices.specs.Same.{same}
 use Rattle.replay.specs.Tally.{raised, caseBegun, stepMade, endRead, failed, judged}
 use Rattle.replay.specs.Expected.{Expected, recordAgrees, memoryAgrees, agrees, stepAgrees}
 use Rattle.replay.specs.Replay.{Replay, good, done, afterJudging, commanded, goodAt, commandedAt, replayedFrom, allGoodFrom, replayed, finished}
-use Rattle.slices.proofs.SameLaws.{same-equal, same-self}
+use Rattle.slices.proofs.SameLaws.{both-hold, same-equal, same-self}
 use Rattle.replay.proofs.TallyLaws.{raised-more, raised-most}
-
-both-hold : (t u : Bool) → both t u ≡ true → (t ≡ true) × (u ≡ true)
-both-hold true u e = (refl, e)
-both-hold false u e = (e, cc)
 
 -- ---- what agreement says
 

@@ -1,15 +1,14 @@
 -- The loops over byte slices, a turn more and the end; and the patches.
-use mathlib.Core.Path.{_≡_, refl, ap, sym, _∙_}
+use mathlib.Core.Path.{_≡_, ap, sym, _∙_}
 use mathlib.Core.List.{List, [], _∷_, _++_}
 use Prim.Native.Nat.{ℕ, _+_, _≤_, _<_}
 use native.Mathlib.Numerals.{add-one}
 use native.Mathlib.Omega.{arith}
-use lib.Dec.{leb}
 use lib.ListN.{length, getD, set, take, replicate, replicate-append-replicate}
 use lib.Seq.{take-all, take-suc, take-suc-set}
 use borrow.Author.Tests.{eq-eqb, ne-eqb, lt-leb, le-leb}
 use Rattle.endian.specs.BigEndian.{writeAt}
-use Rattle.replay.specs.Bytes.{copied, fits, patch}
+use Rattle.replay.specs.Bytes.{copied, patch}
 
 -- ---- copy
 

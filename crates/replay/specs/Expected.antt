@@ -1,5 +1,5 @@
 -- The expected machine, and whether a step agrees with it.
-use mathlib.Core.Bool.{Bool, true, false, cond}
+use mathlib.Core.Bool.{Bool, false, cond}
 use mathlib.Core.List.{List}
 use Prim.Native.Nat.{ℕ}
 use lib.Dec.{eqb}
@@ -11,7 +11,7 @@ use Rattle.processor.specs.State.{atReset, fit}
 use Rattle.machine.specs.State.{Machine, machine}
 use Rattle.machine.specs.Step.{stepOf, stepEid}
 use Rattle.record.specs.Record.{recordOf}
-use Rattle.record.specs.Calls.{readRefusal, processorRead, bufferAfter}
+use Rattle.record.specs.Calls.{processorRead, bufferAfter}
 use Rattle.slices.specs.Same.{same}
 use Rattle.replay.specs.Bytes.{copied, fits, patch}
 

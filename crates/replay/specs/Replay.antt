@@ -6,11 +6,10 @@ use lib.Dec.{eqb}
 use lib.ListN.{length}
 use Rattle.words.specs.Logic.{both}
 use Rattle.endian.specs.BigEndian.{readAt}
-use Rattle.processor.specs.declared.Processor.{Processor}
 use Rattle.transfer.specs.Transfer.{readFrom}
 use Rattle.transfer.specs.declared.Read.{Read}
 use Rattle.transfer.specs.declared.Read.the-variants.{Value, Fault}
-use Rattle.machine.specs.State.{Machine, machine}
+use Rattle.machine.specs.State.{Machine}
 use Rattle.machine.specs.Step.{stepOf, stepEid, surroundingsOf}
 use Rattle.record.specs.Calls.{readRefusal}
 use Rattle.replay.specs.Tally.{raisedAt, caseBegun, stepMade, endRead, judged}

@@ -1,8 +1,8 @@
 -- The test is true exactly of equal lists; and the loop over two slices: a turn more, and the end.
-use mathlib.Core.Path.{_≡_, refl, ap, ap₂, sym, _∙_}
+use mathlib.Core.Path.{_≡_, refl, ap, ap₂, _∙_}
 use mathlib.Core.Bool.{Bool, true, false}
 use mathlib.Core.List.{List, [], _∷_}
-use Prim.Native.Nat.{ℕ, zero, suc, _+_, _≤_, _<_}
+use Prim.Native.Nat.{ℕ, suc, _+_, _≤_, _<_}
 use native.Mathlib.Numerals.{add-one}
 use lib.Dec.{eqb}
 use lib.ListN.{length, getD, drop, drop-of-length-le}
@@ -10,6 +10,11 @@ use lib.Seq.{drop-cons}
 use borrow.Author.Tests.{eq-eqb, ne-eqb, eqb-true}
 use Rattle.words.specs.Logic.{both}
 use Rattle.slices.specs.Same.{same}
+
+-- both tests passed
+pub both-hold : (t u : Bool) → both t u ≡ true → (t ≡ true) × (u ≡ true)
+both-hold true u e = (refl, e)
+both-hold false u e = (e, cc)
 
 pub same-equal : (a b : List ℕ) → same a b ≡ true → a ≡ b
 unfolding same

@@ -1,3 +1,4 @@
+-- `outcomes::run_of_kind` meets its contract.
 use mathlib.Core.Path.{ap, sym, _∙_}
 use mathlib.Core.Bool.{Bool}
 use denote.Ref.{now}
@@ -6,40 +7,28 @@ use Rattle.runs.specs.Run.{runOf}
 use borrow.Author.Needs.{needs}
 use Rattle.outcomes.proofs.run_of_kind.Statement.{statement}
 use Rattle.outcomes.proofs.run_of_kind.Tie as tie
-use Rattle.outcomes.proofs.run_of_kind.Reads as reads
-use Rattle.outcomes.proofs.run_of_kind.Lts as lts
-use Rattle.runs.proofs.run.Reads as run-reads
-use Rattle.runs.proofs.run_to_exception.Reads as run-to-exception-reads
 
--- src/lib.rt:48:9
 run-to-exception-requires : tie.Need-run-to-exception-requires
 run-to-exception-requires c κs = search needs
 
--- src/lib.rt:48:9
 same-length : tie.Need-same-length
 same-length c = search needs
 
--- src/lib.rt:48:9
 same-length-2 : tie.Need-same-length-2
 same-length-2 c = search needs
 
--- src/lib.rt:48:9
 returns : tie.Need-returns
 returns c = c .before .before .before .before .run-to-exception .ensures ∙ ap (λ (k : Bool). runOf k (machine (c .before .before .before .before .before .before .before .before .before .before .before .args .p) (now (c .before .before .before .before .before .before .before .before .before .before .before .args .ram)) (now (c .before .before .before .before .before .before .before .before .before .before .before .args .rom)) (now (c .before .before .before .before .before .before .before .before .before .before .before .args .belt))) (c .before .before .before .before .before .before .before .before .before .before .before .args .wanted) 0) (sym (c .before .before .before .before .before .before .before .if1 .taken))
 
--- src/lib.rt:50:5
 run-requires : tie.Need-run-requires
 run-requires c κs = search needs
 
--- src/lib.rt:37:1
 same-length-3 : tie.Need-same-length-3
 same-length-3 c = search needs
 
--- src/lib.rt:37:1
 same-length-4 : tie.Need-same-length-4
 same-length-4 c = search needs
 
--- src/lib.rt:37:1
 returns-2 : tie.Need-returns-2
 returns-2 c = c .before .before .before .before .run .ensures ∙ ap (λ (k : Bool). runOf k (machine (c .before .before .before .before .before .before .before .before .before .before .before .args .p) (now (c .before .before .before .before .before .before .before .before .before .before .before .args .ram)) (now (c .before .before .before .before .before .before .before .before .before .before .before .args .rom)) (now (c .before .before .before .before .before .before .before .before .before .before .before .args .belt))) (c .before .before .before .before .before .before .before .before .before .before .before .args .wanted) 0) (sym (c .before .before .before .before .before .before .before .if1 .left))
 

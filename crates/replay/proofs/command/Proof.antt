@@ -1,5 +1,4 @@
 -- `replay::command` meets its contract, by the laws of CommandLaws.
-use denote.Ref.{now}
 use Rattle.replay.proofs.CommandLaws.{after-end, command-clear, command-start, command-step, command-end, command-patch}
 use borrow.Author.Needs.{needs}
 use Rattle.replay.proofs.command.Statement.{statement}

@@ -1,35 +1,26 @@
-use mathlib.Core.Path.{refl, sym, _∙_}
+-- `outcomes::unchanged::same_machine` meets its contract, by the laws of TestLaws.
+use mathlib.Core.Path.{sym, _∙_}
 use borrow.Author.Tests.{not-true, not-false}
 use Rattle.outcomes.proofs.TestLaws.{fails, passes}
 use borrow.Author.Needs.{needs}
 use Rattle.outcomes.proofs.unchanged.same_machine.Statement.{statement}
 use Rattle.outcomes.proofs.unchanged.same_machine.Tie as tie
-use Rattle.outcomes.proofs.unchanged.same_machine.Reads as reads
-use Rattle.outcomes.proofs.unchanged.same_machine.Lts as lts
-use Rattle.slices.proofs.same_bytes.Reads as same-bytes-reads
-use Rattle.outcomes.proofs.unchanged.same_processor.Reads as same-processor-reads
 
--- src/unchanged.rt:69:9
 same-processor-requires : tie.Need-same-processor-requires
 same-processor-requires c κs = search needs
 
--- src/unchanged.rt:70:9
 returns : tie.Need-returns
 returns c = fails _ (sym (c .before .same-processor .ensures) ∙ not-true _ (c .if1 .taken))
 
--- src/unchanged.rt:72:9
 same-bytes-requires : tie.Need-same-bytes-requires
 same-bytes-requires c κs = search needs
 
--- src/unchanged.rt:73:9
 returns-2 : tie.Need-returns-2
 returns-2 c = passes (sym (c .before .before .before .same-processor .ensures) ∙ not-false _ (c .before .before .if1 .left)) (fails _ (sym (c .before .same-bytes .ensures) ∙ not-true _ (c .if2 .taken)))
 
--- src/unchanged.rt:75:5
 same-bytes-requires-2 : tie.Need-same-bytes-requires-2
 same-bytes-requires-2 c κs = search needs
 
--- src/unchanged.rt:59:1
 returns-3 : tie.Need-returns-3
 returns-3 c = passes (sym (c .before .before .before .before .same-processor .ensures) ∙ not-false _ (c .before .before .before .if1 .left)) (passes (sym (c .before .before .same-bytes .ensures) ∙ not-false _ (c .before .if2 .left)) (c .same-bytes2 .ensures))
 

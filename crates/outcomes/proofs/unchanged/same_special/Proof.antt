@@ -1,33 +1,27 @@
-use mathlib.Core.Path.{refl, sym, _∙_}
+-- `outcomes::unchanged::same_special` meets its contract, by the laws of TestLaws.
+use mathlib.Core.Path.{refl}
 use borrow.Author.Tests.{eq-eqb, ne-eqb}
 use Rattle.outcomes.specs.Unchanged.{sameSpecial}
 use Rattle.outcomes.proofs.TestLaws.{fails, passes}
 use Rattle.outcomes.proofs.unchanged.same_special.Statement.{statement}
 use Rattle.outcomes.proofs.unchanged.same_special.Tie as tie
-use Rattle.outcomes.proofs.unchanged.same_special.Reads as reads
-use Rattle.outcomes.proofs.unchanged.same_special.Lts as lts
 
--- src/unchanged.rt:12:9
 returns : tie.Need-returns
 unfolding sameSpecial
 returns c = fails _ (ne-eqb _ _ (c .if1 .taken))
 
--- src/unchanged.rt:15:9
 returns-2 : tie.Need-returns-2
 unfolding sameSpecial
 returns-2 c = passes (eq-eqb _ _ (c .before .before .before .if1 .left)) (fails _ (ne-eqb _ _ (c .if2 .taken)))
 
--- src/unchanged.rt:18:9
 returns-3 : tie.Need-returns-3
 unfolding sameSpecial
 returns-3 c = passes (eq-eqb _ _ (c .before .before .before .before .before .before .if1 .left)) (passes (eq-eqb _ _ (c .before .before .before .if2 .left)) (fails _ (ne-eqb _ _ (c .if3 .taken))))
 
--- src/unchanged.rt:21:9
 returns-4 : tie.Need-returns-4
 unfolding sameSpecial
 returns-4 c = passes (eq-eqb _ _ (c .before .before .before .before .before .before .before .before .before .if1 .left)) (passes (eq-eqb _ _ (c .before .before .before .before .before .before .if2 .left)) (passes (eq-eqb _ _ (c .before .before .before .if3 .left)) (fails _ (ne-eqb _ _ (c .if4 .taken)))))
 
--- src/unchanged.rt:8:1
 returns-5 : tie.Need-returns-5
 unfolding sameSpecial
 returns-5 c = passes (eq-eqb _ _ (c .before .before .before .before .before .before .before .before .before .before .before .if1 .left)) (passes (eq-eqb _ _ (c .before .before .before .before .before .before .before .before .if2 .left)) (passes (eq-eqb _ _ (c .before .before .before .before .before .if3 .left)) (passes (eq-eqb _ _ (c .before .before .if4 .left)) refl)))

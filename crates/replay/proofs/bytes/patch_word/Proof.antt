@@ -1,5 +1,5 @@
 -- `replay::bytes::patch_word` meets its contract, by the laws of SliceLaws.
-use mathlib.Core.Path.{_≡_, refl, ap, sym, _∙_}
+use mathlib.Core.Path.{sym, _∙_}
 use denote.Ref.{now}
 use borrow.Author.Tests.{lt-leb, le-leb}
 use Rattle.replay.proofs.SliceLaws.{patch-out, patch-in}

@@ -1,5 +1,4 @@
 -- `replay::expected::clear` meets its contract, by the laws of ExpectedLaws.
-use denote.Ref.{now}
 use Rattle.replay.proofs.ExpectedLaws.{cleared-is}
 use borrow.Author.Needs.{needs}
 use Rattle.replay.proofs.expected.clear.Statement.{statement}

@@ -1,7 +1,6 @@
 -- `replay::expected::memory_agrees` meets its contract, by the laws of ExpectedLaws.
 use mathlib.Core.Path.{sym, _∙_}
 use borrow.Author.Tests.{not-true, not-false}
-use denote.Ref.{now}
 use Rattle.replay.proofs.ExpectedLaws.{ram-differs, rom-differs, belt-decides}
 use borrow.Author.Needs.{needs}
 use Rattle.replay.proofs.expected.memory_agrees.Statement.{statement}

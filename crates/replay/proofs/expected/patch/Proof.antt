@@ -1,5 +1,4 @@
 -- `replay::expected::patch` meets its contract, by the laws of ExpectedLaws.
-use denote.Ref.{now}
 use Rattle.replay.proofs.ExpectedLaws.{patch-1, patch-2, patch-3, patch-4, patch-5, patch-none}
 use borrow.Author.Needs.{needs}
 use Rattle.replay.proofs.expected.patch.Statement.{statement}

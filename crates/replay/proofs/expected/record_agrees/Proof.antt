@@ -1,6 +1,5 @@
 -- `replay::expected::record_agrees` meets its contract, by the laws of ExpectedLaws.
-use mathlib.Core.Path.{refl, sym, _∙_}
-use denote.Ref.{now}
+use mathlib.Core.Path.{refl}
 use Rattle.replay.proofs.ExpectedLaws.{no-record, record-compared}
 use borrow.Author.Needs.{needs}
 use Rattle.replay.proofs.expected.record_agrees.Statement.{statement}

@@ -1,5 +1,4 @@
 -- `replay::model::count_step` meets its contract, by the laws of StepLaws.
-use denote.Ref.{now}
 use Rattle.replay.proofs.StepLaws.{completed, excepted}
 use borrow.Author.Needs.{needs}
 use Rattle.replay.proofs.model.count_step.Statement.{statement}

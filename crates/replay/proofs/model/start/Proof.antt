@@ -1,5 +1,4 @@
 -- `replay::model::start` meets its contract, by the laws of ExpectedLaws.
-use denote.Ref.{now}
 use Rattle.replay.proofs.ExpectedLaws.{started-is}
 use borrow.Author.Needs.{needs}
 use Rattle.replay.proofs.model.start.Statement.{statement}

@@ -1,5 +1,4 @@
 -- `replay::model::step` meets its contract, by the laws of StepLaws.
-use denote.Ref.{now}
 use Rattle.replay.proofs.StepLaws.{step-compared, step-counted}
 use borrow.Author.Needs.{needs}
 use Rattle.replay.proofs.model.step.Statement.{statement}
