@@ -30,7 +30,7 @@ fn print_outcome(outcome: Outcome) {
     text::print(b"\n");
 }
 
-fn filled_ram() -> [u8; 8192]
+pub fn filled_ram() -> [u8; 8192]
     ensures { λ r. ⌜ 8192 ≡ length r ⌝ }
 {
     [FILL; 8192]

@@ -1,4 +1,5 @@
 // Page views: their refusals, and the order of the checks.
+use crate::runcases;
 use crate::text;
 use processor::Processor;
 ghost use Prim.Native.Nat.{_≤_};
@@ -7,7 +8,7 @@ ghost use Prim.Native.Nat.{_≤_};
 fn print_view(name: &[u8], p: Processor, ram: usize, page: u64)
     requires { ⌜ ram ≤ 8192 ⌝ }
 {
-    let bytes = [0u8; 8192];
+    let bytes = runcases::filled_ram();
     let found = view::locate(&bytes[..ram], p, page);
     text::print(name);
     text::print_hex(b", page ", page);

@@ -2,10 +2,10 @@
 use crate::bytes;
 use crate::expected;
 use crate::tally;
-use transfer;
-use transfer::Read;
 use processor::Processor;
 use record::Reading;
+use transfer;
+use transfer::Read;
 ghost use mathlib.Core.Path.{_≡_};
 ghost use Rattle.memory.specs.Map.{memory};
 ghost use Rattle.machine.specs.State.{machine};
