@@ -1,12 +1,12 @@
 -- A command of each kind, and the commands one after the other.
-use mathlib.Core.Path.{_≡_, ap}
-use mathlib.Core.Bool.{Bool, true, false}
+use mathlib.Core.Path.{_≡_, refl, ap, _∙_}
+use mathlib.Core.Bool.{Bool, true, false, cond}
 use mathlib.Core.List.{List}
 use Prim.Native.Nat.{ℕ, suc, _+_, _*_, _-_, _/_, _%_, _≤_, _<_}
 use native.Mathlib.Omega.{arith}
 use lib.Dec.{eqb}
 use lib.ListN.{length}
-use borrow.Author.Tests.{ne-eqb}
+use borrow.Author.Tests.{ne-eqb, eqb-true, eqb-false}
 use Rattle.endian.specs.BigEndian.{readAt}
 use Rattle.machine.specs.State.{Machine}
 use Rattle.machine.specs.Step.{stepOf, stepEid}
@@ -17,6 +17,9 @@ use Rattle.replay.specs.Expected.{Expected, clear, patchFits, patched, s
 use Rattle.replay.specs.Replay.{Tallies, Replay, replay, opcodeAt, tallied, good, done, afterJudging, commanded, commandedAt, replayedFrom, replayed}
 
 -- ---- one command
+
+pub last-kind : (kind : ℕ) → (kind ≡ 6 → ⊥) → (kind ≡ 7 → ⊥) → 6 ≤ kind → kind ≤ 8 → kind ≡ 8
+last-kind kind six seven low high = omega arith
 
 module _ (x : Expected) (m : Machine) (c : Counts) (t : Tallies) (kind a b : ℕ) where
   pub after-end : (d : Counts) → c .ended ≡ true → d ≡ judged (eqb kind 7) false c → replay x m d t ≡ commanded (replay x m c t) kind a b
@@ -50,6 +53,19 @@ module _ (x : Expected) (m : Machine) (c : Counts) (t : Tallies) (kind a b : ℕ
         → replay y m d t ≡ commanded (replay x m c t) kind a b
     unfolding commanded good done afterJudging
     command-patch y d fits k0 k6 k7 k8 f g h = simp (on, ne-eqb kind 0 k0, ne-eqb kind 6 k6, ne-eqb kind 7 k7, ne-eqb kind 8 k8, g, h, f)
+
+    -- a command on the expected machine, by whether a case begins
+    module _ (y : Expected) (d : Counts) (outside : 6 ≤ kind → kind ≤ 8 → ⊥)
+        (f : y ≡ cond (eqb kind 0) (clear x) (patched x kind a b))
+        (g : d ≡ cond (eqb kind 0) (caseBegun c) (judged false (patchFits x kind a) c)) where
+      by-kind : (begins : Bool) → eqb kind 0 ≡ begins → replay y m d t ≡ commanded (replay x m c t) kind a b
+      by-kind true h = command-clear y d (eqb-true kind 0 h) (f ∙ rw h) (g ∙ rw h)
+      by-kind false h =
+          command-patch y d (patchFits x kind a) (eqb-false kind 0 h) (λ e. outside (omega arith) (omega arith))
+          (λ e. outside (omega arith) (omega arith)) (λ e. outside (omega arith) (omega arith)) refl (f ∙ rw h) (g ∙ rw h)
+
+      pub command-expect : replay y m d t ≡ commanded (replay x m c t) kind a b
+      command-expect = by-kind (eqb kind 0) refl
 
 -- ---- the commands of a part
 

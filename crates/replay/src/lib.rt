@@ -6,10 +6,14 @@ pub mod tally;
 
 use processor::Processor;
 use tally::Counts;
+ghost use mathlib.Core.Bool.{false, cond};
 ghost use mathlib.Core.Path.{_≡_};
+ghost use Prim.Native.Nat.{_≤_};
+ghost use lib.Dec.{eqb};
 ghost use Rattle.machine.specs.State.{machine};
-ghost use Rattle.replay.specs.Expected.{expected};
-ghost use Rattle.replay.specs.Replay.{tallies, replay, commanded, replayed, finished};
+ghost use Rattle.replay.specs.Tally.{caseBegun, judged};
+ghost use Rattle.replay.specs.Expected.{expected, clear, patchFits, patched};
+ghost use Rattle.replay.specs.Replay.{clearKind, startKind, endKind, tallies, replay, commanded, replayed, finished};
 
 const CLEAR: u32 = 0;
 
@@ -23,6 +27,85 @@ const END: u32 = 8;
 pub struct Progress {
     pub processor: Processor,
     pub counts: Counts,
+}
+
+// A command on the expected machine: a case begins, or a patch.
+fn expect(
+    counts: Counts,
+    xrecord: &mut [u8],
+    xram: &mut [u8],
+    xrom: &mut [u8],
+    xbelt: &mut [u8],
+    kind: u32,
+    a: u32,
+    b: u32,
+) -> Counts
+    ensures state { λ r. ⌜ expected (now (xrecord .exit)) (now (xram .exit)) (now (xrom .exit)) (now (xbelt .exit)) ≡ cond (eqb kind clearKind) (clear (expected (now (xrecord .entry)) (now (xram .entry)) (now (xrom .entry)) (now (xbelt .entry)))) (patched (expected (now (xrecord .entry)) (now (xram .entry)) (now (xrom .entry)) (now (xbelt .entry))) kind a b) ⌝ }
+    ensures counts { λ r. ⌜ r ≡ cond (eqb kind clearKind) (caseBegun counts) (judged false (patchFits (expected (now (xrecord .entry)) (now (xram .entry)) (now (xrom .entry)) (now (xbelt .entry))) kind a) counts) ⌝ }
+{
+    if kind == CLEAR {
+        expected::clear(xrecord, xram, xrom, xbelt);
+        return counts.begin_case();
+    }
+    let fits = expected::patch(xrecord, xram, xrom, xbelt, kind, a, b);
+    counts.judge(false, fits)
+}
+
+// A command on the model's machine, or the end.
+fn act(
+    p: Processor,
+    counts: Counts,
+    xrecord: &[u8],
+    xram: &[u8],
+    xrom: &[u8],
+    xbelt: &[u8],
+    ram: &mut [u8],
+    rom: &mut [u8],
+    belt: &mut [u8],
+    opcodes: &mut [u32],
+    exceptions: &mut [u32],
+    kind: u32,
+    a: u32,
+    b: u32,
+) -> Progress
+    requires { ⌜ (counts .ended ≡ false) × (startKind ≤ kind) × (kind ≤ endKind) ⌝ }
+    ensures { λ r. ⌜ replay (expected (now (xrecord .entry)) (now (xram .entry)) (now (xrom .entry)) (now (xbelt .entry))) (machine (r .processor) (now (ram .exit)) (now (rom .exit)) (now (belt .exit))) (r .counts) (tallies (now (opcodes .exit)) (now (exceptions .exit))) ≡ commanded (replay (expected (now (xrecord .entry)) (now (xram .entry)) (now (xrom .entry)) (now (xbelt .entry))) (machine p (now (ram .entry)) (now (rom .entry)) (now (belt .entry))) counts (tallies (now (opcodes .entry)) (now (exceptions .entry)))) kind a b ⌝ }
+{
+    match kind {
+        START => {
+            let reading = model::start(ram, rom, belt, xrecord, xram, xrom, xbelt);
+            let started = reading.processor;
+            Progress {
+                processor: started,
+                counts: counts.judge(false, reading.refusal == record::ACCEPTED),
+            }
+        }
+        STEP => {
+            let compared = model::step(
+                p,
+                ram,
+                &rom[..],
+                belt,
+                a,
+                opcodes,
+                exceptions,
+                xrecord,
+                xram,
+                xrom,
+                xbelt,
+                b,
+            );
+            let next = compared.processor;
+            Progress {
+                processor: next,
+                counts: counts.make_step().judge(true, compared.agrees),
+            }
+        }
+        _ => Progress {
+            processor: p,
+            counts: counts.read_end().judge(false, counts.cases == b),
+        },
+    }
 }
 
 // A command: its kind and its two numbers.
@@ -51,61 +134,26 @@ fn command(
         };
     }
     match kind {
-        CLEAR => {
-            expected::clear(xrecord, xram, xrom, xbelt);
-            Progress {
-                processor: p,
-                counts: counts.begin_case(),
-            }
-        }
-        START => {
-            let reading = model::start(
-                ram,
-                rom,
-                belt,
-                &xrecord[..],
-                &xram[..],
-                &xrom[..],
-                &xbelt[..],
-            );
-            let started = reading.processor;
-            Progress {
-                processor: started,
-                counts: counts.judge(false, reading.refusal == record::ACCEPTED),
-            }
-        }
-        STEP => {
-            let compared = model::step(
-                p,
-                ram,
-                &rom[..],
-                belt,
-                a,
-                opcodes,
-                exceptions,
-                &xrecord[..],
-                &xram[..],
-                &xrom[..],
-                &xbelt[..],
-                b,
-            );
-            let next = compared.processor;
-            Progress {
-                processor: next,
-                counts: counts.make_step().judge(true, compared.agrees),
-            }
-        }
-        END => Progress {
+        START..=END => act(
+            p,
+            counts,
+            &xrecord[..],
+            &xram[..],
+            &xrom[..],
+            &xbelt[..],
+            ram,
+            rom,
+            belt,
+            opcodes,
+            exceptions,
+            kind,
+            a,
+            b,
+        ),
+        _ => Progress {
             processor: p,
-            counts: counts.read_end().judge(false, counts.cases == b),
+            counts: expect(counts, xrecord, xram, xrom, xbelt, kind, a, b),
         },
-        _ => {
-            let fits = expected::patch(xrecord, xram, xrom, xbelt, kind, a, b);
-            Progress {
-                processor: p,
-                counts: counts.judge(false, fits),
-            }
-        }
     }
 }
 
