@@ -4,6 +4,8 @@ mod report;
 use libc::STDOUT_FILENO;
 use processor::Processor;
 use replay::tally::Counts;
+ghost use mathlib.Core.Bool.{true};
+ghost use mathlib.Core.Path.{_≡_};
 ghost use Prim.Native.Nat.{_-_, _≤_};
 
 // The bytes of a part, and the most parts that are read: a longer file is one without an end.
@@ -84,7 +86,9 @@ fn replay_file(
     belt: &mut [u8],
     opcodes: &mut [u32],
     exceptions: &mut [u32],
-) -> Counts {
+) -> Counts
+    ensures { λ r. ⌜ (r .mismatches ≡ 0 → r .ended ≡ true) ⌝ }
+{
     let mut state = Processor::reset();
     let mut counts = Counts::zero();
     let mut left = MOST_PARTS;
@@ -111,12 +115,14 @@ fn replay_file(
     replay::finish(counts)
 }
 
-// RAM of 8,192 bytes, ROM of 4,096 and a belt of 1,024.
-pub fn run(path: &[u8]) {
+// RAM of 8,192 bytes, ROM of 4,096 and a belt of 1,024. What is counted is printed and answered.
+pub fn run(path: &[u8]) -> Counts
+    ensures { λ r. ⌜ (r .mismatches ≡ 0 → r .ended ≡ true) ⌝ }
+{
     let fd = os::open_read(path);
     if fd < 0 {
         io::write_all(STDOUT_FILENO, b"the file cannot be opened\n");
-        return;
+        return replay::finish(Counts::zero());
     }
     let mut xrecord = [0u8; 414];
     let mut xram = [0u8; 8192];
@@ -141,4 +147,5 @@ pub fn run(path: &[u8]) {
     );
     libc::close(fd);
     report::print(counts, &opcodes, &exceptions);
+    counts
 }

@@ -1,6 +1,7 @@
 // What a replay counted, in lines of text.
 use libc::STDOUT_FILENO;
 use replay::tally::Counts;
+ghost use mathlib.Core.Path.{_≡_};
 
 // EIDs 0 to 25; the first 16 are interrupt channels.
 const EXCEPTIONS: usize = 26;
@@ -107,7 +108,10 @@ fn print_mismatches(counts: Counts) {
     print_count(b"at its step ", counts.firststep);
 }
 
-pub fn print(counts: Counts, opcodes: &[u32], exceptions: &[u32]) {
+// Answers the mismatches, the number that it prints last.
+pub fn print(counts: Counts, opcodes: &[u32], exceptions: &[u32]) -> u32
+    ensures { λ r. ⌜ r ≡ counts .mismatches ⌝ }
+{
     print_count(b"cases: ", counts.cases);
     print_count(b"steps: ", counts.steps);
     print_text(b"completed steps by opcode:\n");
@@ -115,4 +119,5 @@ pub fn print(counts: Counts, opcodes: &[u32], exceptions: &[u32]) {
     print_text(b"accepted exceptions by EID:\n");
     print_exceptions(exceptions);
     print_mismatches(counts);
+    counts.mismatches
 }

@@ -1,7 +1,8 @@
 -- `beltio::run` meets its contract, by the count of `belttrace::answer` within the buffer.
-use mathlib.Core.Path.{sym}
+use mathlib.Core.Path.{refl, sym}
 use lib.Seq.{length-take-le}
 use borrow.Author.Needs.{needs}
+use Rattle.beltio.proofs.Lengths.{bytes-written}
 use Rattle.belttrace.proofs.Lines.{within}
 use Rattle.beltio.proofs.run.Statement.{statement}
 use Rattle.beltio.proofs.run.Tie as tie
@@ -37,7 +38,7 @@ write-all-requires : tie.Need-write-all-requires
 write-all-requires c κs = search needs
 
 returns : tie.Need-returns
-returns c = search needs
+returns c = bytes-written _ _ (c .before .before .before .before .before .before .before .read-full .result) _ refl (sym (c .before .before .before .before .before .before .before .read-full .ensures .1)) (c .before .before .before .answer .ensures .0)
 
 pub run-spec : {M : Type 1} → statement M
 run-spec =

@@ -3,6 +3,7 @@ use mathlib.Core.Path.{_≡_, refl, _∙_}
 use native.Mathlib.Omega.{arith}
 use lib.ListN.{length}
 use borrow.Author.Needs.{needs}
+use Rattle.replayio.proofs.Ended.{none-means-ended}
 use Rattle.replayio.proofs.replay_file.Statement.{statement}
 use Rattle.replayio.proofs.replay_file.Tie as tie
 
@@ -61,7 +62,7 @@ same-length-9 : tie.Need-same-length-9 Inv-loop μ-loop
 same-length-9 c = c .before .before .loop .inv .8
 
 returns : tie.Need-returns Inv-loop μ-loop
-returns c = search needs
+returns c = none-means-ended _ _ (c .finish .ensures)
 
 pub replay-file-spec : {M : Type 1} → statement M
 replay-file-spec =

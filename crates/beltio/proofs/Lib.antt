@@ -1,0 +1,2 @@
+-- The laws of `beltio`.
+pub mod Lengths

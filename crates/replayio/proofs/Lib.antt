@@ -1,0 +1,2 @@
+-- The laws of `replayio`.
+pub mod Ended
