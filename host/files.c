@@ -39,8 +39,6 @@ static int read_open(FILE *file, const char *path, size_t most, struct bytes *by
 
     if (fstat(fileno(file), &stat) != 0)
         return say_bad(path, strerror(errno));
-    if (S_ISDIR(stat.st_mode))
-        return say_bad(path, strerror(EISDIR));
     if (!S_ISREG(stat.st_mode))
         return read_stream(file, path, most < 4096 ? most : 4096, most, bytes);
     if ((uintmax_t)stat.st_size > most)

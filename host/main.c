@@ -50,7 +50,8 @@ static int finish(const struct options *options, const struct job *job)
 
 static int work(const struct options *options)
 {
-    static struct job job;
+    static const struct job none;
+    struct job job = none;
     int status = prepare(options, &job);
 
     if (status == STATUS_GOOD)
