@@ -1,10 +1,10 @@
--- `cases::runcases::print_run` is safe and ends.
+-- `cases::print_run` is safe and ends.
 use mathlib.Core.Path.{sym}
 use native.Mathlib.Omega.{arith}
 use lib.Seq.{length-take-le}
 use borrow.Author.Needs.{needs}
-use Rattle.cases.proofs.runcases.print_run.Statement.{statement}
-use Rattle.cases.proofs.runcases.print_run.Tie as tie
+use Rattle.cases.proofs.print_run.Statement.{statement}
+use Rattle.cases.proofs.print_run.Tie as tie
 
 filled-ram-requires : tie.Need-filled-ram-requires
 filled-ram-requires c κs = search needs

@@ -1,9 +1,9 @@
--- `cases::records::record_with` is safe and ends.
+-- `cases::record_with` is safe and ends.
 use native.Mathlib.Omega.{arith}
 use lib.ListN.{length-set, length-append}
 use borrow.Author.Needs.{needs}
-use Rattle.cases.proofs.records.record_with.Statement.{statement}
-use Rattle.cases.proofs.records.record_with.Tie as tie
+use Rattle.cases.proofs.record_with.Statement.{statement}
+use Rattle.cases.proofs.record_with.Tie as tie
 
 sample-requires : tie.Need-sample-requires
 sample-requires c κs = search needs

@@ -1,10 +1,10 @@
--- `cases::records::print_write` is safe and ends.
+-- `cases::print_write` is safe and ends.
 use mathlib.Core.Path.{sym}
 use native.Mathlib.Omega.{arith}
 use lib.Seq.{length-take-le}
 use borrow.Author.Needs.{needs}
-use Rattle.cases.proofs.records.print_write.Statement.{statement}
-use Rattle.cases.proofs.records.print_write.Tie as tie
+use Rattle.cases.proofs.print_write.Statement.{statement}
+use Rattle.cases.proofs.print_write.Tie as tie
 
 filled-requires : tie.Need-filled-requires
 filled-requires c κs = search needs

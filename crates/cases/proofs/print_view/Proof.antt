@@ -1,10 +1,10 @@
--- `cases::views::print_view` is safe and ends.
+-- `cases::print_view` is safe and ends.
 use mathlib.Core.Path.{sym}
 use native.Mathlib.Omega.{arith}
 use lib.Seq.{length-take-le}
 use borrow.Author.Needs.{needs}
-use Rattle.cases.proofs.views.print_view.Statement.{statement}
-use Rattle.cases.proofs.views.print_view.Tie as tie
+use Rattle.cases.proofs.print_view.Statement.{statement}
+use Rattle.cases.proofs.print_view.Tie as tie
 
 filled-ram-requires : tie.Need-filled-ram-requires
 filled-ram-requires c κs = search needs

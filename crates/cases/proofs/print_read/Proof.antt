@@ -1,10 +1,10 @@
--- `cases::records::print_read` is safe and ends.
+-- `cases::print_read` is safe and ends.
 use mathlib.Core.Path.{sym}
 use native.Mathlib.Omega.{arith}
 use lib.Seq.{length-take-le}
 use borrow.Author.Needs.{needs}
-use Rattle.cases.proofs.records.print_read.Statement.{statement}
-use Rattle.cases.proofs.records.print_read.Tie as tie
+use Rattle.cases.proofs.print_read.Statement.{statement}
+use Rattle.cases.proofs.print_read.Tie as tie
 
 record-with-requires : tie.Need-record-with-requires
 record-with-requires c κs = search needs
