@@ -2,6 +2,7 @@
 #
 #   make                               the library, if it is missing, and target/host/eco32
 #   make test                          the gate, .ci/run
+#   make bench                         the model's speed beside a plain C simulator's and the Rust simulator's
 #   make install PREFIX=.. [DESTDIR=..]  header, library, eco32.pc and host
 #   make uninstall PREFIX=.. [DESTDIR=..]
 #   make clean                         away with what make built, the library too
@@ -22,7 +23,17 @@ LIBRARY = target/staticlib/libeco32.a
 HOST = target/host/eco32
 OBJECTS := $(patsubst host/%.c,target/host/%.o,$(wildcard host/*.c))
 
-.PHONY: all test install uninstall clean absolute
+# The bench: -O3 for C, as cargo's release profile has it for Rust. BENCH_FLAGS may be --steps N and --rounds N.
+BENCH = target/bench/bench
+REPLAY = target/bench/replay
+BENCH_CFLAGS = -O3
+BENCH_FLAGS =
+BENCH_RUST = target/bench/rust/release/libeco32_bench.a
+PLAIN_OBJECTS = target/bench/plain.o target/bench/record.o
+BENCH_OBJECTS = target/bench/bench.o target/bench/images.o $(PLAIN_OBJECTS)
+REPLAY_OBJECTS = target/bench/replay.o $(PLAIN_OBJECTS)
+
+.PHONY: all test bench cargo install uninstall clean absolute
 
 all: $(LIBRARY) $(HOST)
 
@@ -38,10 +49,28 @@ target/host/%.o: host/%.c
 	@mkdir -p $(@D)
 	$(CC) -std=c11 $(WARNINGS) $(CPPFLAGS) $(CFLAGS) -Iinclude -MMD -MP -c $< -o $@
 
--include $(OBJECTS:.o=.d)
+-include $(OBJECTS:.o=.d) $(BENCH_OBJECTS:.o=.d) target/bench/replay.d
 
 test:
 	.ci/run
+
+bench: $(BENCH)
+	$(BENCH) $(BENCH_FLAGS)
+
+# The last three are for Rust's standard library.
+$(BENCH): $(BENCH_OBJECTS) $(LIBRARY) $(BENCH_RUST)
+	$(CC) $(BENCH_CFLAGS) $(LDFLAGS) $^ -lpthread -ldl -lm -o $@
+
+$(REPLAY): $(REPLAY_OBJECTS)
+	$(CC) $(BENCH_CFLAGS) $(LDFLAGS) $^ -o $@
+
+target/bench/%.o: reference/bench/%.c
+	@mkdir -p $(@D)
+	$(CC) -std=c11 $(WARNINGS) $(CPPFLAGS) $(BENCH_CFLAGS) -Iinclude -MMD -MP -c $< -o $@
+
+# Cargo itself knows what has to be built again.
+$(BENCH_RUST): cargo
+	cargo build --release --offline --quiet --manifest-path reference/bench/rust/Cargo.toml --target-dir target/bench/rust
 
 # eco32.pc names the prefix, so it has to hold from any directory.
 absolute:
@@ -62,5 +91,5 @@ uninstall: absolute
 	    '$(DESTDIR)$(PKGCONFIGDIR)/eco32.pc'
 
 clean:
-	rm -rf target/host
+	rm -rf target/host target/bench
 	rm -f $(LIBRARY)

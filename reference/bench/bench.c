@@ -1,0 +1,173 @@
+/*
+ * Measures the model against the plain simulator in C and the simulator in Rust: the same image, the same run, in
+ * one process, in turn. After each round all three have to have the same machine and memory.
+ */
+#define _POSIX_C_SOURCE 199309L
+
+#include "images.h"
+#include "plain.h"
+
+#include <stdio.h>
+#include <stdlib.h>
+#include <string.h>
+#include <time.h>
+
+#define SIDES 3
+
+typedef struct eco32_answer run(uint8_t *machine, size_t machine_len, uint8_t *ram, size_t ram_len,
+                                const uint8_t *rom, size_t rom_len, uint8_t *belt, size_t belt_len, uint64_t wanted,
+                                uint16_t lines);
+
+/* reference/bench/rust */
+run reference_run;
+
+struct side {
+    const char *name;
+    run *run;
+};
+
+static const struct side sides[SIDES] = {{"model", eco32_run}, {"C", plain_run}, {"Rust", reference_run}};
+
+struct workload {
+    const char *name;
+    void (*image)(struct world *world);
+};
+
+static const struct workload workloads[] = {{"Kernel Mode, direct-mapped", image_kernel},
+                                            {"User Mode, eight pages", image_user}};
+
+struct options {
+    uint64_t steps;
+    uint64_t rounds;
+};
+
+static void fail(const char *name, const char *what)
+{
+    fprintf(stderr, "bench: %s %s\n", name, what);
+    exit(1);
+}
+
+/* Time of this process alone: what else the machine does is not counted. */
+static double seconds(void)
+{
+    struct timespec now;
+
+    if (clock_gettime(CLOCK_PROCESS_CPUTIME_ID, &now) != 0)
+        fail("clock_gettime", "fails");
+    return (double)now.tv_sec + (double)now.tv_nsec * 1e-9;
+}
+
+/* Makes the steps in calls of at most a million, and answers the seconds. */
+static double timed(const struct side *side, struct world *world, uint64_t steps)
+{
+    static const uint8_t rom[ROM_LENGTH];
+    double before = seconds();
+
+    while (steps > 0) {
+        uint64_t wanted = steps < ECO32_MOST_STEPS ? steps : ECO32_MOST_STEPS;
+        struct eco32_answer answer = side->run(world->record, sizeof world->record, world->ram, sizeof world->ram,
+                                               rom, sizeof rom, world->belt, sizeof world->belt, wanted, 0);
+
+        if (answer.refusal != ECO32_ACCEPTED || answer.steps != wanted)
+            fail(side->name, "did not make the steps");
+        steps -= wanted;
+    }
+    return seconds() - before;
+}
+
+/* The programs meet no exception: one would have changed the PSW. */
+static void check(const struct world *start, const struct world worlds[SIDES])
+{
+    struct plain_machine before;
+    struct plain_machine after;
+    int n;
+
+    for (n = 1; n < SIDES; n++)
+        if (memcmp(&worlds[0], &worlds[n], sizeof worlds[0]) != 0)
+            fail(sides[n].name, "and the model do not agree");
+    plain_read(&before, start->record);
+    plain_read(&after, worlds[0].record);
+    if (before.special[PSW] != after.special[PSW])
+        fail("the program", "met an exception");
+}
+
+/* The least time of each side. */
+static void measure(const struct workload *workload, const struct options *options, double least[SIDES])
+{
+    static struct world start;
+    static _Alignas(4096) struct world worlds[SIDES];
+    uint64_t round;
+    int n;
+
+    workload->image(&start);
+    for (round = 0; round < options->rounds; round++) {
+        for (n = 0; n < SIDES; n++) {
+            double time;
+
+            worlds[n] = start;
+            time = timed(&sides[n], &worlds[n], options->steps);
+            if (round == 0 || time < least[n])
+                least[n] = time;
+        }
+        check(&start, worlds);
+    }
+}
+
+static void report(const struct workload *workload, const struct options *options, const double least[SIDES])
+{
+    int n;
+
+    printf("%-26s", workload->name);
+    for (n = 0; n < SIDES; n++)
+        printf(" %8.1f", (double)options->steps / least[n] / 1e6);
+    for (n = 1; n < SIDES; n++)
+        printf(" %11.2f", least[n] / least[0]);
+    printf("\n");
+}
+
+static uint64_t number(const char *text)
+{
+    char *end;
+    unsigned long value = strtoul(text, &end, 10);
+
+    if (*text < '0' || *text > '9' || *end != '\0' || value == 0 || value > 1000000000)
+        fail(text, "is no count from 1 to 1000000000");
+    return value;
+}
+
+static struct options read_options(int count, char **words)
+{
+    struct options options = {10000000, 9};
+    int n;
+
+    for (n = 1; n + 1 < count; n += 2) {
+        if (strcmp(words[n], "--steps") == 0)
+            options.steps = number(words[n + 1]);
+        else if (strcmp(words[n], "--rounds") == 0)
+            options.rounds = number(words[n + 1]);
+        else
+            break;
+    }
+    if (n < count)
+        fail("usage:", "bench [--steps N] [--rounds N]");
+    return options;
+}
+
+int main(int count, char **words)
+{
+    struct options options = read_options(count, words);
+    size_t n;
+
+    printf("Million steps a second, by the least time of %lu rounds of %lu steps.\n", (unsigned long)options.rounds,
+           (unsigned long)options.steps);
+    printf("Ratios are of speeds: above 1 the model is the faster.\n\n");
+    printf("%-26s %8s %8s %8s %11s %11s\n", "", "model", "C", "Rust", "model/C", "model/Rust");
+    for (n = 0; n < sizeof workloads / sizeof workloads[0]; n++) {
+        double least[SIDES];
+
+        measure(&workloads[n], &options, least);
+        report(&workloads[n], &options, least);
+    }
+    printf("\nAfter each run the three had the same machine and memory.\n");
+    return 0;
+}

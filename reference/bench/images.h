@@ -1,0 +1,25 @@
+/* The two workloads: RAM with a program in it, and the machine that begins it. */
+#ifndef BENCH_IMAGES_H
+#define BENCH_IMAGES_H
+
+#include "eco32.h"
+
+#define RAM_LENGTH 65536
+#define ROM_LENGTH 4096
+
+/* What a run may change. */
+struct world {
+    uint8_t record[ECO32_RECORD_LENGTH];
+    uint8_t ram[RAM_LENGTH];
+    uint8_t belt[ECO32_BELT_LENGTH];
+};
+
+/* Kernel Mode in direct-mapped RAM, C0000000 up: a loop of arithmetic, branches, a call, loads and stores over 1,024
+ * words, without end and without exception. */
+void image_kernel(struct world *world);
+
+/* User Mode on eight pages, in TLB entries 0 to 7: code on two of them, loads and stores on all, without end and
+ * without exception. */
+void image_user(struct world *world);
+
+#endif
