@@ -75,6 +75,12 @@ static double timed(const struct side *side, struct world *world, uint64_t steps
     return seconds() - before;
 }
 
+static int same(const struct world *a, const struct world *b)
+{
+    return memcmp(a->record, b->record, sizeof a->record) == 0 && memcmp(a->ram, b->ram, sizeof a->ram) == 0 &&
+           memcmp(a->belt, b->belt, sizeof a->belt) == 0;
+}
+
 /* The programs meet no exception: one would have changed the PSW. */
 static void check(const struct world *start, const struct world worlds[SIDES])
 {
@@ -83,7 +89,7 @@ static void check(const struct world *start, const struct world worlds[SIDES])
     int n;
 
     for (n = 1; n < SIDES; n++)
-        if (memcmp(&worlds[0], &worlds[n], sizeof worlds[0]) != 0)
+        if (!same(&worlds[0], &worlds[n]))
             fail(sides[n].name, "and the model do not agree");
     plain_read(&before, start->record);
     plain_read(&after, worlds[0].record);
@@ -95,7 +101,7 @@ static void check(const struct world *start, const struct world worlds[SIDES])
 static void measure(const struct workload *workload, const struct options *options, double least[SIDES])
 {
     static struct world start;
-    static _Alignas(4096) struct world worlds[SIDES];
+    static struct world worlds[SIDES];
     uint64_t round;
     int n;
 
@@ -149,7 +155,7 @@ static struct options read_options(int count, char **words)
             break;
     }
     if (n < count)
-        fail("usage:", "bench [--steps N] [--rounds N]");
+        fail("takes", "[--steps N] [--rounds N]");
     return options;
 }
 

@@ -1,3 +1,4 @@
+/* The programs of the workloads, instruction by instruction. */
 #include "images.h"
 
 #include "opcodes.h"
@@ -95,11 +96,13 @@ void image_kernel(struct world *world)
     plain_write(&m, world->record);
 }
 
+/* The pages follow one another; their frames go down from the last of RAM. Half of the code stands on a page of an
+ * early entry and half on one of a late entry: a search from entry 0 up is as long for code as for data. */
 #define PAGES 8
-#define FIRST_PAGE 0x00010u  /* the eight pages follow one another, */
-#define LAST_FRAME 0x0000Fu  /* their frames go down from the last of RAM */
-#define FIRST_CODE_PAGE 1u   /* neither at the beginning of the TLB nor at its end, */
-#define SECOND_CODE_PAGE 6u  /* so that a search from entry 0 is as long for code as for data */
+#define FIRST_PAGE 0x00010u
+#define LAST_FRAME 0x0000Fu
+#define FIRST_CODE_PAGE 1u
+#define SECOND_CODE_PAGE 6u
 
 static struct code on_page(struct world *world, uint32_t page)
 {
@@ -134,7 +137,7 @@ static void map_pages(struct plain_machine *m)
     }
 }
 
-/* From the word behind `code`'s next one, on one code page, to the start of the other. */
+/* The offset of a jump that stands next on one code page and goes to the start of the other. */
 static uint32_t across(const struct code *code, uint32_t from, uint32_t to)
 {
     uint32_t within = code->at - ((LAST_FRAME - from) << 10);

@@ -7,10 +7,10 @@
 #define RAM_LENGTH 65536
 #define ROM_LENGTH 4096
 
-/* What a run may change. */
+/* What a run may change. RAM begins on a page of the host's, so that in no copy of it words lie across cache lines. */
 struct world {
+    _Alignas(4096) uint8_t ram[RAM_LENGTH];
     uint8_t record[ECO32_RECORD_LENGTH];
-    uint8_t ram[RAM_LENGTH];
     uint8_t belt[ECO32_BELT_LENGTH];
 };
 

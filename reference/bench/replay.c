@@ -54,6 +54,9 @@ static void clear(struct scene *scene)
     plain_write(&m, scene->record);
 }
 
+/* Most mismatches that are told one by one. */
+#define MOST_TOLD 10
+
 /* A mismatch is counted, and the replay goes on from the expected scene, so that each step is judged by itself. */
 static void step(struct replay *replay, uint16_t lines, uint32_t expected_eid)
 {
@@ -68,9 +71,9 @@ static void step(struct replay *replay, uint16_t lines, uint32_t expected_eid)
     replay->steps++;
     if (eid == expected_eid && memcmp(found, &replay->expected, sizeof *found) == 0)
         return;
-    replay->mismatches++;
-    fprintf(stderr, "replay: step %lu, case %lu: EID %lu, expected %lu\n", replay->steps, replay->cases,
-            (unsigned long)eid, (unsigned long)expected_eid);
+    if (++replay->mismatches <= MOST_TOLD)
+        fprintf(stderr, "replay: case %lu, step %lu of the file: another state or EID (%lu, expected %lu)\n",
+                replay->cases, replay->steps, (unsigned long)eid, (unsigned long)expected_eid);
     *found = replay->expected;
 }
 
