@@ -2,11 +2,12 @@
  * Measures the model against the plain simulator in C and the simulator in Rust: the same image, the same run, in
  * one process, in turn. After each round all three have to have the same machine and memory.
  */
-#define _POSIX_C_SOURCE 199309L
+#define _POSIX_C_SOURCE 200809L
 
 #include "images.h"
 #include "plain.h"
 
+#include <pthread.h>
 #include <stdio.h>
 #include <stdlib.h>
 #include <string.h>
@@ -57,22 +58,40 @@ static double seconds(void)
     return (double)now.tv_sec + (double)now.tv_nsec * 1e-9;
 }
 
+static void call(const struct side *side, struct world *world, uint64_t wanted)
+{
+    static const uint8_t rom[ROM_LENGTH];
+    struct eco32_answer answer = side->run(world->record, sizeof world->record, world->ram, sizeof world->ram, rom,
+                                           sizeof rom, world->belt, sizeof world->belt, wanted, 0);
+
+    if (answer.refusal != ECO32_ACCEPTED || answer.steps != wanted)
+        fail(side->name, "did not make the steps");
+}
+
 /* Makes the steps in calls of at most a million, and answers the seconds. */
 static double timed(const struct side *side, struct world *world, uint64_t steps)
 {
-    static const uint8_t rom[ROM_LENGTH];
     double before = seconds();
 
     while (steps > 0) {
         uint64_t wanted = steps < ECO32_MOST_STEPS ? steps : ECO32_MOST_STEPS;
-        struct eco32_answer answer = side->run(world->record, sizeof world->record, world->ram, sizeof world->ram,
-                                               rom, sizeof rom, world->belt, sizeof world->belt, wanted, 0);
 
-        if (answer.refusal != ECO32_ACCEPTED || answer.steps != wanted)
-            fail(side->name, "did not make the steps");
+        call(side, world, wanted);
         steps -= wanted;
     }
     return seconds() - before;
+}
+
+/* Makes calls of so many steps, and answers the seconds of one. */
+static double timed_call(const struct side *side, struct world *world, uint64_t steps)
+{
+    enum { CALLS = 1000 };
+    double before = seconds();
+    int n;
+
+    for (n = 0; n < CALLS; n++)
+        call(side, world, steps);
+    return (seconds() - before) / CALLS;
 }
 
 static int same(const struct world *a, const struct world *b)
@@ -131,6 +150,78 @@ static void report(const struct workload *workload, const struct options *option
     printf("\n");
 }
 
+/* What a call costs by its steps: with none it reads the record and writes it, and the model tests that it is fit. */
+static void report_calls(const struct options *options)
+{
+    static const uint64_t steps[] = {0, 1, 16, 256};
+    static struct world start;
+    static struct world worlds[SIDES];
+    size_t row;
+
+    image_kernel(&start);
+    printf("\n%-26s %8s %8s %8s\n", "Nanoseconds a call", sides[0].name, sides[1].name, sides[2].name);
+    for (row = 0; row < sizeof steps / sizeof steps[0]; row++) {
+        double least[SIDES];
+        uint64_t round;
+        int n;
+
+        for (round = 0; round < options->rounds; round++)
+            for (n = 0; n < SIDES; n++) {
+                double time;
+
+                worlds[n] = start;
+                time = timed_call(&sides[n], &worlds[n], steps[row]);
+                if (round == 0 || time < least[n])
+                    least[n] = time;
+            }
+        check(&start, worlds);
+        printf("%3lu %-22s", (unsigned long)steps[row], steps[row] == 1 ? "step" : "steps");
+        for (n = 0; n < SIDES; n++)
+            printf(" %8.0f", least[n] * 1e9);
+        printf("\n");
+    }
+}
+
+/* The stack of a thread that makes one call of the model, painted before: what is left of the paint was not used. */
+enum { STACK = 1 << 18, PAINT = 0xA5 };
+static _Alignas(4096) uint8_t stack[STACK];
+
+static void *one_call(void *world)
+{
+    call(&sides[0], world, 1000);
+    return NULL;
+}
+
+static void *no_call(void *world)
+{
+    (void)world;
+    return NULL;
+}
+
+static size_t stack_used(void *body(void *), struct world *world)
+{
+    pthread_attr_t attributes;
+    pthread_t thread;
+    size_t unused = 0;
+
+    memset(stack, PAINT, sizeof stack);
+    if (pthread_attr_init(&attributes) != 0 || pthread_attr_setstack(&attributes, stack, sizeof stack) != 0 ||
+        pthread_create(&thread, &attributes, body, world) != 0 || pthread_join(thread, NULL) != 0)
+        fail("a thread", "cannot be had");
+    while (unused < sizeof stack && stack[unused] == PAINT)
+        unused++;
+    return sizeof stack - unused;
+}
+
+static void report_stack(void)
+{
+    static struct world world;
+
+    image_user(&world);
+    printf("\nA call of the model has %lu bytes of stack, and no other memory than it is lent.\n",
+           (unsigned long)(stack_used(one_call, &world) - stack_used(no_call, &world)));
+}
+
 static uint64_t number(const char *text)
 {
     char *end;
@@ -143,7 +234,7 @@ static uint64_t number(const char *text)
 
 static struct options read_options(int count, char **words)
 {
-    struct options options = {10000000, 9};
+    struct options options = {1000000, 100};
     int n;
 
     for (n = 1; n + 1 < count; n += 2) {
@@ -174,6 +265,8 @@ int main(int count, char **words)
         measure(&workloads[n], &options, least);
         report(&workloads[n], &options, least);
     }
+    report_calls(&options);
+    report_stack();
     printf("\nAfter each run the three had the same machine and memory.\n");
     return 0;
 }

@@ -15,9 +15,9 @@ use Rattle.record.specs.Calls.{readRefusal, processorRead}
 use Rattle.record.proofs.Answers.{accepted-means, read-accepted}
 use Rattle.record.proofs.ReadWritten.{read-written}
 use Rattle.machine.specs.State.{Machine}
-use Rattle.runs.specs.Refusal.{check, ramAccepted, romAccepted, beltAccepted, lengthsChecked, memoryChecked, stepsChecked}
+use Rattle.refusal.specs.Refusal.{check, ramAccepted, romAccepted, beltAccepted, lengthsChecked, memoryChecked, stepsChecked}
 use Rattle.runs.specs.Run.{answer, Outcome, runFrom}
-use Rattle.runs.proofs.Checks.{lengths-refused, lengths-passed}
+use Rattle.refusal.proofs.Checks.{lengths-refused, lengths-passed}
 use Rattle.runs.proofs.RunFit.{run-fit}
 use Rattle.eco32.specs.Records.{recordChecked}
 use Rattle.eco32.specs.Runs.{callRefusal, Called, called, machineIn, recorded, callOf}

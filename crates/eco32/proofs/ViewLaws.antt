@@ -12,7 +12,7 @@ use Rattle.processor.specs.declared.Processor.{Processor}
 use Rattle.record.specs.Record.{processorOf}
 use Rattle.record.specs.Calls.{readRefusal, processorRead}
 use Rattle.record.proofs.Answers.{accepted-means, read-accepted}
-use Rattle.runs.specs.Refusal.{ramAccepted, check}
+use Rattle.refusal.specs.Refusal.{ramAccepted, check}
 use Rattle.view.specs.View.{hasFrame, lookedUp, offsetOf, viewRefusal, viewOffset, viewLength}
 use Rattle.eco32.specs.Records.{recordChecked}
 use Rattle.eco32.specs.Views.{callViewRefusal, callViewOffset, callViewLength}

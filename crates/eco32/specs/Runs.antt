@@ -6,7 +6,7 @@ use lib.Dec.{eqb}
 use Rattle.memory.specs.Map.{Memory}
 use Rattle.record.specs.Record.{recordOf, processorOf}
 use Rattle.machine.specs.State.{Machine}
-use Rattle.runs.specs.Refusal.{memoryChecked, stepsChecked}
+use Rattle.refusal.specs.Refusal.{memoryChecked, stepsChecked}
 use Rattle.runs.specs.Run.{Answer, answer, Outcome, runFrom}
 use Rattle.eco32.specs.Records.{recordChecked}
 

@@ -5,7 +5,7 @@ use Prim.Native.Nat.{ℕ}
 use lib.Dec.{eqb}
 use lib.ListN.{length}
 use Rattle.record.specs.Record.{processorOf}
-use Rattle.runs.specs.Refusal.{ramAccepted, check}
+use Rattle.refusal.specs.Refusal.{ramAccepted, check}
 use Rattle.view.specs.View.{hasFrame, lookedUp, offsetOf}
 use Rattle.eco32.specs.Records.{recordChecked}
 

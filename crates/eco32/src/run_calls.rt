@@ -1,6 +1,5 @@
 // The two exported runs.
 use processor::Processor;
-use runs::refusal;
 ghost use mathlib.Core.Path.{_≡_};
 ghost use Rattle.memory.specs.Map.{memory};
 ghost use Rattle.runs.specs.Run.{plain, toException};

@@ -1,5 +1,4 @@
 // The exported page view.
-use runs::refusal;
 ghost use mathlib.Core.Path.{_≡_};
 ghost use Rattle.eco32.specs.Views.{callViewRefusal, callViewOffset, callViewLength};
 

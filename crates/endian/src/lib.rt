@@ -35,6 +35,16 @@ pub fn read_word(s: &[u8], at: usize) -> u32
         + wide(s[at + 3])
 }
 
+// The same number. Where words of two slices meet, each read in its own way stays one load in the compiled code.
+pub fn read_word_by_halves(s: &[u8], at: usize) -> u32
+    requires { ⌜ at + 4 ≤ length (now s) ⌝ }
+    ensures { λ r. ⌜ r ≡ readAt 4 (now (s .entry)) at ⌝ }
+{
+    let high = wide(s[at]) * 0x100 + wide(s[at + 1]);
+    let low = wide(s[at + 2]) * 0x100 + wide(s[at + 3]);
+    high * 0x1_0000 + low
+}
+
 pub fn write_byte(s: &mut [u8], at: usize, v: u32)
     requires { ⌜ at + 1 ≤ length (now s) ⌝ }
     ensures { λ r. ⌜ now (s .exit) ≡ writeAt 1 (now (s .entry)) at v ⌝ }

@@ -24,7 +24,11 @@ pub fn accepted(psw: u32, lines: u32) -> u32
     ensures { λ r. ⌜ r ≡ channel psw lines ⌝ }
 {
     if psw / 0x80_0000 % 2 == 1 {
-        return lowest_ready(lines & (psw % 0x1_0000));
+        let ready = lines & (psw % 0x1_0000);
+        if ready == 0 {
+            return Processor::NO_EXCEPTION;
+        }
+        return lowest_ready(ready);
     }
     Processor::NO_EXCEPTION
 }

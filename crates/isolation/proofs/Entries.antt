@@ -16,7 +16,7 @@ use Rattle.record.proofs.KindLaws.{means-kinds}
 use Rattle.record.proofs.Written.{record-length}
 use Rattle.record.proofs.WrittenRead.{Value, holds}
 use Rattle.machine.specs.State.{Machine, Words32, Representable}
-use Rattle.runs.specs.Refusal.{check, memoryChecked, stepsChecked, runRefusal}
+use Rattle.refusal.specs.Refusal.{check, memoryChecked, stepsChecked, runRefusal}
 use Rattle.runs.specs.Run.{Outcome, runFrom, refused, runOf}
 use Rattle.runs.proofs.RunRepresentable.{run-representable}
 use Rattle.eco32.specs.Records.{recordChecked}

@@ -18,7 +18,7 @@ use Rattle.instructions.specs.declared.Action.{Action}
 use Rattle.instructions.specs.declared.Action.the-variants.{Write, Store, System, Exception}
 use Rattle.machine.specs.State.{Machine, Representable}
 use Rattle.machine.specs.Step.{look, storeWidth, memoryDone, stepOf, stepEid}
-use Rattle.runs.specs.Refusal.{pagesUpTo, ramAccepted, romAccepted, check, lengthsChecked, runRefusal}
+use Rattle.refusal.specs.Refusal.{pagesUpTo, ramAccepted, romAccepted, check, lengthsChecked, runRefusal}
 use Rattle.runs.specs.Run.{Answer, Outcome, outcome, ends, runFrom, refused, runOf}
 use Rattle.machine.proofs.StepRepresentable.{step-representable}
 use Rattle.isolation.specs.Frames.{Reached, SameIn}

@@ -6,7 +6,7 @@ use Prim.Native.Nat.{ℕ}
 use lib.Dec.{eqb}
 use borrow.Author.Tests.{eqb-true}
 use Rattle.machine.specs.State.{Machine}
-use Rattle.runs.specs.Refusal.{runRefusal}
+use Rattle.refusal.specs.Refusal.{runRefusal}
 use Rattle.runs.specs.Run.{Outcome, runFrom, refused, runOf}
 use Rattle.isolation.specs.Trace.{Call, inUserMode, traceFrom, callOutcome, callTrace, madeInUserMode}
 use Rattle.isolation.proofs.Entries.{outcome-is, trace-is}

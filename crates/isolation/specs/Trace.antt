@@ -7,7 +7,7 @@ use Rattle.words.specs.Logic.{both}
 use Rattle.status.specs.Psw.{userMode}
 use Rattle.machine.specs.State.{Machine}
 use Rattle.machine.specs.Step.{stepOf, stepEid}
-use Rattle.runs.specs.Refusal.{runRefusal}
+use Rattle.refusal.specs.Refusal.{runRefusal}
 use Rattle.runs.specs.Run.{Answer, Outcome, ends, runOf}
 use Rattle.record.specs.Record.{recordOf}
 use Rattle.eco32.specs.Runs.{Called, machineIn, callRefusal, callOf}

@@ -6,6 +6,7 @@ use transfer::Read;
 ghost use mathlib.Core.Path.{_≡_};
 ghost use Rattle.memory.specs.Map.{memory};
 ghost use Rattle.memory.specs.Access.{memoryAfter};
+ghost use Rattle.translation.specs.Found.{Serves};
 ghost use Rattle.instructions.specs.Operands.{surroundings};
 ghost use Rattle.machine.specs.State.{machine};
 ghost use Rattle.machine.specs.Step.{lookFrom, systemDone, storeWidth, stepOf, stepEid};
@@ -16,25 +17,27 @@ pub struct Stepped {
     pub eid: u32,
 }
 
-// What the step does, from what it reads.
-pub fn look<'a>(
+// What the step does, from what it reads; `i` is the index of the PC's page.
+pub fn look_at<'a>(
     registers: &'a Words,
     pc: u32,
     psw: u32,
     highs: &'a Words,
     lows: &'a Words,
+    i: usize,
     ram: &[u8],
     rom: &[u8],
     belt: &[u8],
     lines: u32,
 ) -> Action
+    requires { ⌜ Serves (now highs) i pc ⌝ }
     ensures { λ r. ⌜ r ≡ lookFrom (surroundings psw (now (highs .entry)) (now (lows .entry)) (memory (now (ram .entry)) (now (rom .entry)) (now (belt .entry)))) (now (registers .entry)) pc lines ⌝ }
 {
     let channel = interrupt::accepted(psw, lines);
     if channel < 32 {
         return Action::Exception(channel, 0, 0);
     }
-    let fetched = transfer::read_word(psw, highs, lows, ram, rom, belt, pc);
+    let fetched = transfer::fetch(psw, highs, lows, i, ram, rom, belt, pc);
     match fetched {
         Read::Value(word) => decode::execute(
             registers,
@@ -51,8 +54,25 @@ pub fn look<'a>(
     }
 }
 
+pub fn look<'a>(
+    registers: &'a Words,
+    pc: u32,
+    psw: u32,
+    highs: &'a Words,
+    lows: &'a Words,
+    ram: &[u8],
+    rom: &[u8],
+    belt: &[u8],
+    lines: u32,
+) -> Action
+    ensures { λ r. ⌜ r ≡ lookFrom (surroundings psw (now (highs .entry)) (now (lows .entry)) (memory (now (ram .entry)) (now (rom .entry)) (now (belt .entry)))) (now (registers .entry)) pc lines ⌝ }
+{
+    let i = translation::index_of(highs, pc);
+    look_at(registers, pc, psw, highs, lows, i, ram, rom, belt, lines)
+}
+
 // The look has found that something answers.
-fn store(ram: &mut [u8], rom: &[u8], belt: &mut [u8], width: u32, physical: u32, value: u32)
+pub fn store(ram: &mut [u8], rom: &[u8], belt: &mut [u8], width: u32, physical: u32, value: u32)
     ensures { λ r. ⌜ memory (now (ram .exit)) (now (rom .entry)) (now (belt .exit)) ≡ memoryAfter (storeWidth width) (memory (now (ram .entry)) (now (rom .entry)) (now (belt .entry))) physical value ⌝ }
 {
     match width {
@@ -63,7 +83,7 @@ fn store(ram: &mut [u8], rom: &[u8], belt: &mut [u8], width: u32, physical: u32,
     ;
 }
 
-fn system(p: Processor, opcode: u32, z: u32, v: u32) -> Processor
+pub fn system(p: Processor, opcode: u32, z: u32, v: u32) -> Processor
     ensures { λ r. ⌜ r ≡ systemDone opcode z v p ⌝ }
 {
     let next = computation::add(p.pc, 4);

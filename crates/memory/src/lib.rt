@@ -85,8 +85,8 @@ pub fn load_word(ram: &[u8], rom: &[u8], belt: &[u8], address: u32) -> Loaded
     let place = place_of(4, ram.len(), rom.len(), belt.len(), address);
     match place {
         Place::Ram(at) => Loaded::Value(endian::read_word(ram, at as usize)),
-        Place::Rom(at) => Loaded::Value(endian::read_word(rom, at as usize)),
-        Place::Belt(at) => Loaded::Value(endian::read_word(belt, at as usize)),
+        Place::Rom(at) => Loaded::Value(endian::read_word_by_halves(rom, at as usize)),
+        Place::Belt(at) => Loaded::Value(endian::read_word_by_halves(belt, at as usize)),
         Place::Nothing => Loaded::Timeout,
     }
 }

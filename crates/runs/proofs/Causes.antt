@@ -7,7 +7,7 @@ use lib.Dec.{leb}
 use lib.ListN.{length}
 use Rattle.processor.specs.State.{fit}
 use Rattle.machine.specs.State.{Machine}
-use Rattle.runs.specs.Refusal.{check, ramAccepted, romAccepted, beltAccepted, lengthsChecked, stepsChecked, runRefusal}
+use Rattle.refusal.specs.Refusal.{check, ramAccepted, romAccepted, beltAccepted, lengthsChecked, stepsChecked, runRefusal}
 
 -- the five checks, by their outcomes
 abbrev checks : Bool → Bool → Bool → Bool → Bool → ℕ

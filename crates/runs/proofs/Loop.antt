@@ -32,6 +32,12 @@ left n i h = omega arith
 over : (n i : ℕ) → n ≤ i → n - i ≡ 0
 over n i h = omega arith
 
+pub one-more : (n i : ℕ) → i < n → i + 1 ≤ n
+one-more n i h = omega arith
+
+pub one-less : (n i : ℕ) → i < n → n - (i + 1) < n - i
+one-less n i h = omega arith
+
 module _ (kind : Bool) (wanted made : ℕ) (m : Machine) (lines : ℕ) where
   module _ (n : Machine) (eid : ℕ) (e : n ≡ stepOf m lines) (f : eid ≡ stepEid m lines) (more : made < wanted) where
     pub run-more : ends kind eid ≡ false

@@ -6,7 +6,7 @@ use Rattle.words.proofs.Cases.{chosen}
 use Rattle.machine.specs.State.{Machine, Representable}
 use Rattle.machine.specs.Step.{stepOf, stepEid}
 use Rattle.machine.proofs.StepRepresentable.{step-representable}
-use Rattle.runs.specs.Refusal.{runRefusal}
+use Rattle.refusal.specs.Refusal.{runRefusal}
 use Rattle.runs.specs.Run.{Outcome, ends, runFrom, runOf}
 
 pub run-representable : (kind : Bool) (n made : ℕ) (m : Machine) (lines : ℕ) → Representable m

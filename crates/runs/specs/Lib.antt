@@ -1,3 +1,2 @@
--- The definitions of `runs`, in the order to read them.
-pub mod Refusal
+-- The definitions of `runs`.
 pub mod Run

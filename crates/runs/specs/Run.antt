@@ -5,7 +5,7 @@ use lib.Dec.{ltb, eqb}
 use Rattle.words.specs.Logic.{both}
 use Rattle.machine.specs.State.{Machine}
 use Rattle.machine.specs.Step.{stepOf, stepEid}
-use Rattle.runs.specs.Refusal.{runRefusal}
+use Rattle.refusal.specs.Refusal.{runRefusal}
 
 -- the kinds: whether an accepted exception ends the run
 abbrev pub plain : Bool

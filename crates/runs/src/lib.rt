@@ -1,7 +1,7 @@
-// The two kinds of run, and which calls are refused (document 01, "Runs and views" and "Refused calls").
-pub mod refusal;
-
+// The two kinds of run (document 01, "Runs and views").
+use instructions::Action;
 use processor::Processor;
+use translation::found;
 ghost use mathlib.Core.Path.{_≡_};
 ghost use Rattle.machine.specs.State.{machine};
 ghost use Rattle.runs.specs.Run.{plain, toException, outcome, runFrom, runOf};
@@ -27,16 +27,52 @@ pub fn advance(
     ensures { λ r. ⌜ outcome (machine (r .processor) (now (ram .exit)) (now (rom .entry)) (now (belt .exit))) (r .refusal) (r .steps) (r .eid) ≡ runFrom kind wanted 0 (machine p (now (ram .entry)) (now (rom .entry)) (now (belt .entry))) lines ⌝ }
 {
     let mut state = p;
+    // Beside the state, and the same as in it: a read of `state.registers` would wait for the copy that each write makes.
+    let mut registers = p.registers;
+    let mut last = found::first(&p.tlbhigh);
     let mut steps = 0;
     let mut eid = Processor::NO_EXCEPTION;
     while steps < wanted {
-        let stepped = machine::step(state, ram, rom, belt, lines);
-        state = stepped.processor;
+        last = found::follow(&state.tlbhigh, last, state.pc);
+        let action = machine::look_at(
+            &registers,
+            state.pc,
+            state.psw,
+            &state.tlbhigh,
+            &state.tlblow,
+            last.index,
+            &ram[..],
+            rom,
+            &belt[..],
+            lines,
+        );
         steps += 1;
-        if kind {
-            if stepped.eid < Processor::NO_EXCEPTION {
-                eid = stepped.eid;
-                break;
+        match action {
+            Action::Write(n, v, next) => {
+                let i = (n % 32) as usize;
+                if i == 0 {
+                    state = state.jump(next);
+                } else {
+                    state = state.write(n, v, next);
+                    registers[i] = v;
+                }
+            }
+            Action::Store(width, physical, v) => {
+                machine::store(ram, rom, belt, width, physical, v);
+                state = state.jump(computation::add(state.pc, 4));
+            }
+            Action::System(opcode, z, v) => {
+                state = machine::system(state, opcode, z, v);
+                registers = state.registers;
+                last = found::first(&state.tlbhigh);
+            }
+            Action::Exception(number, address, _) => {
+                state = state.enter(number, address);
+                registers = state.registers;
+                if kind {
+                    eid = number;
+                    break;
+                }
             }
         }
     }

@@ -13,6 +13,7 @@ ghost use Rattle.memory.specs.Map.{memory};
 ghost use Rattle.instructions.specs.Operands.{operands, surroundings, simple, illegal};
 ghost use Rattle.words.specs.Numbers.{zeroExtend};
 ghost use Rattle.translation.specs.Translation.{bytesOf};
+ghost use Rattle.translation.specs.Found.{Serves};
 ghost use Rattle.transfer.specs.Transfer.{readFrom, extensions, landed, storeTo, transfers};
 
 // What a read through the translation brings: a value, or a fault's identifier.
@@ -77,6 +78,31 @@ pub fn read_word<'a>(
     ensures { λ r. ⌜ r ≡ readFrom 4 (surroundings psw (now (highs .entry)) (now (lows .entry)) (memory (now (ram .entry)) (now (rom .entry)) (now (belt .entry)))) address ⌝ }
 {
     let place = translation::translate(psw, highs, lows, Width::Word, false, address);
+    let Translation::Physical(physical) = place else {
+        return Read::Fault(translation::eid_of(place));
+    };
+    let loaded = memory::load_word(ram, rom, belt, physical);
+    match loaded {
+        Loaded::Value(v) => Read::Value(v),
+        Loaded::Timeout => Read::Fault(Processor::BUS_TIMEOUT),
+    }
+}
+
+// The instruction word at the PC, whose page has the index `i`.
+pub fn fetch<'a>(
+    psw: u32,
+    highs: &'a Words,
+    lows: &'a Words,
+    i: usize,
+    ram: &[u8],
+    rom: &[u8],
+    belt: &[u8],
+    pc: u32,
+) -> Read
+    requires { ⌜ Serves (now highs) i pc ⌝ }
+    ensures { λ r. ⌜ r ≡ readFrom 4 (surroundings psw (now (highs .entry)) (now (lows .entry)) (memory (now (ram .entry)) (now (rom .entry)) (now (belt .entry)))) pc ⌝ }
+{
+    let place = translation::translate_at(psw, highs, lows, i, Width::Word, false, pc);
     let Translation::Physical(physical) = place else {
         return Read::Fault(translation::eid_of(place));
     };

@@ -3,11 +3,17 @@ use processor::Processor;
 use processor::Words;
 use processor::tlb;
 ghost use mathlib.Core.Path.{_≡_};
-ghost use mathlib.Core.Bool.{not};
+ghost use mathlib.Core.Bool.{not, cond};
 ghost use Prim.Native.Nat.{_%_};
-ghost use lib.Dec.{eqb};
+ghost use lib.Dec.{leb, ltb, eqb};
+ghost use lib.ListN.{getD};
+ghost use Rattle.processor.specs.Tlb.{pageOf, lookup};
 ghost use Rattle.status.specs.Psw.{userMode};
-ghost use Rattle.translation.specs.Translation.{bytesOf, through, mapped, forbidden, translated, translationEid};
+ghost use Rattle.translation.specs.Translation.{bytesOf, through, forbidden, translated, translationEid};
+ghost use Rattle.translation.specs.Found.{Serves};
+ghost use Rattle.translation.specs.declared.Translation.the-variants.{TlbMiss};
+
+pub mod found;
 
 // The size of an access.
 pub enum Width {
@@ -65,14 +71,49 @@ fn through(low: u32, store: bool, address: u32) -> Translation
     Translation::Physical(low / 0x1000 * 0x1000 + address % 0x1000)
 }
 
-fn mapped<'a>(highs: &'a Words, lows: &'a Words, store: bool, address: u32) -> Translation
-    ensures { λ r. ⌜ r ≡ mapped (now (highs .entry)) (now (lows .entry)) store address ⌝ }
+// By the index of the page's entry, or 32.
+fn entry(lows: &Words, i: usize, store: bool, address: u32) -> Translation
+    ensures { λ r. ⌜ r ≡ cond (ltb i 32) (through (getD (now (lows .entry)) i 0) store address) TlbMiss ⌝ }
 {
-    let i = tlb::find(highs, address / 0x1000);
     if i < 32 {
         return through(lows[i], store, address);
     }
     Translation::TlbMiss
+}
+
+// The index of an address's page; a direct-mapped address has none.
+pub fn index_of(highs: &Words, address: u32) -> usize
+    ensures { λ r. ⌜ r ≡ cond (leb 0xC0000000 address) 32 (lookup (now (highs .entry)) (pageOf address)) ⌝ }
+{
+    if 0xC000_0000 <= address {
+        return 32;
+    }
+    tlb::find(highs, address / 0x1000)
+}
+
+// With the index of the address's page at hand: `highs` is in the contract alone.
+pub fn translate_at<'a>(
+    psw: u32,
+    highs: &'a Words,
+    lows: &'a Words,
+    i: usize,
+    width: Width,
+    store: bool,
+    address: u32,
+) -> Translation
+    requires { ⌜ Serves (now highs) i address ⌝ }
+    ensures { λ r. ⌜ r ≡ translated psw (now (highs .entry)) (now (lows .entry)) (bytesOf width) store address ⌝ }
+{
+    if is_misaligned(address, width) {
+        return Translation::IllegalAddress;
+    }
+    if is_forbidden(psw, address) {
+        return Translation::PrivilegedAddress;
+    }
+    if 0xC000_0000 <= address {
+        return Translation::Physical(address - 0xC000_0000);
+    }
+    entry(lows, i, store, address)
 }
 
 pub fn translate<'a>(
@@ -85,16 +126,8 @@ pub fn translate<'a>(
 ) -> Translation
     ensures { λ r. ⌜ r ≡ translated psw (now (highs .entry)) (now (lows .entry)) (bytesOf width) store address ⌝ }
 {
-    if is_misaligned(address, width) {
-        return Translation::IllegalAddress;
-    }
-    if is_forbidden(psw, address) {
-        return Translation::PrivilegedAddress;
-    }
-    if 0xC000_0000 <= address {
-        return Translation::Physical(address - 0xC000_0000);
-    }
-    mapped(highs, lows, store, address)
+    let i = index_of(highs, address);
+    translate_at(psw, highs, lows, i, width, store, address)
 }
 
 // The identifier of the fault, or 32.

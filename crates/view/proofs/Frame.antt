@@ -14,7 +14,7 @@ use Rattle.processor.specs.State.{fit}
 use Rattle.processor.specs.declared.Processor.{Processor}
 use Rattle.translation.specs.declared.Translation.{Translation}
 use Rattle.translation.specs.declared.Translation.the-variants.{Physical, TlbMiss, TlbWrite, TlbInvalid, IllegalAddress, PrivilegedAddress}
-use Rattle.runs.specs.Refusal.{ramAccepted, check, pagesUpTo}
+use Rattle.refusal.specs.Refusal.{ramAccepted, check, pagesUpTo}
 use Rattle.view.specs.View.{lookedUp, inRam, offsetOf, hasFrame, viewRefusal, viewOffset, viewLength, viewPart, partPtr}
 use Rattle.view.proofs.Lookup.{frame-start}
 

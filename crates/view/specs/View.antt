@@ -10,7 +10,7 @@ use Rattle.translation.specs.Translation.{translated}
 use Rattle.processor.specs.declared.Processor.{Processor}
 use Rattle.translation.specs.declared.Translation.{Translation}
 use Rattle.translation.specs.declared.Translation.the-variants.{Physical, TlbMiss, TlbWrite, TlbInvalid, IllegalAddress, PrivilegedAddress}
-use Rattle.runs.specs.Refusal.{ramAccepted, check}
+use Rattle.refusal.specs.Refusal.{ramAccepted, check}
 
 -- ---- the lookup: "a Kernel Mode load of its first byte"
 

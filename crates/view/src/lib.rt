@@ -1,6 +1,5 @@
 // The page view: the part of the lent RAM behind a virtual page (document 01, "Runs and views").
 use processor::Processor;
-use runs::refusal;
 use translation::Translation;
 use translation::Width;
 ghost use mathlib.Core.Path.{_≡_};

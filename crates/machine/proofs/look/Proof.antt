@@ -1,48 +1,18 @@
--- `machine::look` meets its contract, by the laws of Looks.
-use mathlib.Core.Path.{refl, sym, _∙_}
+-- `machine::look` meets its contract: the index is that of the PC's page.
+use mathlib.Core.Path.{_∙_}
+use borrow.Author.Tests.{lt-leb}
 use borrow.Author.Needs.{needs}
-use Rattle.machine.proofs.Looks.{executed-next}
-use Rattle.machine.proofs.Looks.{look-interrupt, look-decodes}
 use Rattle.machine.proofs.look.Statement.{statement}
 use Rattle.machine.proofs.look.Tie as tie
 
-accepted-requires : tie.Need-accepted-requires
-accepted-requires c κs = search needs
+index-of-requires : tie.Need-index-of-requires
+index-of-requires c κs = search needs
+
+look-at-requires : tie.Need-look-at-requires
+look-at-requires c κs = λ below. c .index-of .ensures ∙ simp (lt-leb _ _ below)
 
 returns : tie.Need-returns
-returns c = look-interrupt _ _ _ _ _ (c .before .accepted .ensures) (c .if1 .taken)
-
-read-word-requires : tie.Need-read-word-requires
-read-word-requires c κs = search needs
-
-enum-known-fetched : tie.Need-enum-known-fetched
-enum-known-fetched c = search needs
-
-add-requires : tie.Need-add-requires
-add-requires c κs = search needs
-
-execute-requires : tie.Need-execute-requires
-execute-requires c κs = search needs
-
-enum-known-fetched-2 : tie.Need-enum-known-fetched-2
-enum-known-fetched-2 c = search needs
-
-returns-2 : tie.Need-returns-2
-returns-2 c = look-decodes _ _ _ _ _ _ _ (c .before .before .before .before .before .before .before .accepted .ensures) (c .before .before .before .before .before .before .if1 .left) (sym (c .before .before .before .before .before .read-word .ensures) ∙ c .before .before .before .fetched .given .1) (c .execute .ensures ∙ executed-next _ _ _ _ _ _ (c .before .add .ensures))
-
-returns-3 : tie.Need-returns-3
-returns-3 c = look-decodes _ _ _ _ _ _ _ (c .before .before .before .before .before .accepted .ensures) (c .before .before .before .before .if1 .left) (sym (c .before .before .before .read-word .ensures) ∙ c .before .fetched2 .given .1) refl
+returns c = search needs
 
 pub look-spec : {M : Type 1} → statement M
-look-spec =
-    tie.close
-    (tie.spec
-    accepted-requires
-    returns
-    read-word-requires
-    enum-known-fetched
-    add-requires
-    execute-requires
-    enum-known-fetched-2
-    returns-2
-    returns-3)
+look-spec = tie.close (tie.spec index-of-requires look-at-requires returns)

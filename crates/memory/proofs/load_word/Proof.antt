@@ -22,20 +22,20 @@ read-word-requires c κs = place-lies 4 _ _ _ _ (Ram _) (sym (c .before .before 
 enum-known-place-2 : tie.Need-enum-known-place-2
 enum-known-place-2 c = search needs
 
-cast-read-word-2 : tie.Need-cast-read-word-2
-cast-read-word-2 c = search needs
+cast-read-word-by-halves : tie.Need-cast-read-word-by-halves
+cast-read-word-by-halves c = search needs
 
-read-word-requires-2 : tie.Need-read-word-requires-2
-read-word-requires-2 c κs = place-lies 4 _ _ _ _ (Rom _) (sym (c .before .before .before .place-of .ensures) ∙ c .before .place2 .given .1) .1
+read-word-by-halves-requires : tie.Need-read-word-by-halves-requires
+read-word-by-halves-requires c κs = place-lies 4 _ _ _ _ (Rom _) (sym (c .before .before .before .place-of .ensures) ∙ c .before .place2 .given .1) .1
 
 enum-known-place-3 : tie.Need-enum-known-place-3
 enum-known-place-3 c = search needs
 
-cast-read-word-3 : tie.Need-cast-read-word-3
-cast-read-word-3 c = search needs
+cast-read-word-by-halves-2 : tie.Need-cast-read-word-by-halves-2
+cast-read-word-by-halves-2 c = search needs
 
-read-word-requires-3 : tie.Need-read-word-requires-3
-read-word-requires-3 c κs = place-lies 4 _ _ _ _ (Belt _) (sym (c .before .before .before .place-of .ensures) ∙ c .before .place3 .given .1) .1
+read-word-by-halves-requires-2 : tie.Need-read-word-by-halves-requires-2
+read-word-by-halves-requires-2 c κs = place-lies 4 _ _ _ _ (Belt _) (sym (c .before .before .before .place-of .ensures) ∙ c .before .place3 .given .1) .1
 
 enum-told : tie.Need-enum-told
 enum-told c = search needs
@@ -44,10 +44,10 @@ returns : tie.Need-returns
 returns c = loads-ram 4 _ _ _ _ _ _ (sym (c .before .before .before .before .place-of .ensures) ∙ c .before .before .place .given .1) (c .read-word .ensures)
 
 returns-2 : tie.Need-returns-2
-returns-2 c = loads-rom 4 _ _ _ _ _ _ (sym (c .before .before .before .before .place-of .ensures) ∙ c .before .before .place2 .given .1) (c .read-word2 .ensures)
+returns-2 c = loads-rom 4 _ _ _ _ _ _ (sym (c .before .before .before .before .place-of .ensures) ∙ c .before .before .place2 .given .1) (c .read-word-by-halves .ensures)
 
 returns-3 : tie.Need-returns-3
-returns-3 c = loads-belt 4 _ _ _ _ _ _ (sym (c .before .before .before .before .place-of .ensures) ∙ c .before .before .place3 .given .1) (c .read-word3 .ensures)
+returns-3 c = loads-belt 4 _ _ _ _ _ _ (sym (c .before .before .before .before .place-of .ensures) ∙ c .before .before .place3 .given .1) (c .read-word-by-halves2 .ensures)
 
 returns-4 : tie.Need-returns-4
 returns-4 c = loads-nothing 4 _ _ _ _ (sym (c .before .before .place-of .ensures) ∙ c .enum-told .given .1)
@@ -61,11 +61,11 @@ load-word-spec =
     cast-read-word
     read-word-requires
     enum-known-place-2
-    cast-read-word-2
-    read-word-requires-2
+    cast-read-word-by-halves
+    read-word-by-halves-requires
     enum-known-place-3
-    cast-read-word-3
-    read-word-requires-3
+    cast-read-word-by-halves-2
+    read-word-by-halves-requires-2
     enum-told
     returns
     returns-2

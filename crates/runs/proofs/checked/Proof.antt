@@ -1,4 +1,4 @@
--- `runs::checked` meets its contract, by the laws of Checks.
+-- `runs::checked` meets its contract, by the laws of Refused.
 use mathlib.Core.Bool.{false}
 use mathlib.Core.Path.{_∙_}
 use Prim.Native.Nat.{_≤_}
@@ -6,7 +6,7 @@ use native.Mathlib.Omega.{arith}
 use denote.Ref.{now}
 use borrow.Author.Needs.{needs}
 use Rattle.machine.specs.State.{machine}
-use Rattle.runs.proofs.Checks.{run-refused, run-accepted, steps-within}
+use Rattle.runs.proofs.Refused.{run-refused, run-accepted, steps-within}
 use Rattle.runs.proofs.checked.Statement.{statement}
 use Rattle.runs.proofs.checked.Tie as tie
 

@@ -1,44 +1,18 @@
--- `translation::translate` meets its contract, by its definition.
-use mathlib.Core.Path.{sym, _∙_}
+-- `translation::translate` meets its contract: the index is that of the address's page.
+use mathlib.Core.Path.{_∙_}
+use borrow.Author.Tests.{lt-leb}
 use borrow.Author.Needs.{needs}
-use borrow.Author.Tests.{le-leb, lt-leb}
-use Rattle.translation.specs.Translation.{translated}
 use Rattle.translation.proofs.translate.Statement.{statement}
 use Rattle.translation.proofs.translate.Tie as tie
 
-is-misaligned-requires : tie.Need-is-misaligned-requires
-is-misaligned-requires c κs = search needs
+index-of-requires : tie.Need-index-of-requires
+index-of-requires c κs = search needs
+
+translate-at-requires : tie.Need-translate-at-requires
+translate-at-requires c κs = λ below. c .index-of .ensures ∙ simp (lt-leb _ _ below)
 
 returns : tie.Need-returns
-unfolding translated
-returns c = simp (sym (c .before .is-misaligned .ensures) ∙ c .if1 .taken)
-
-is-forbidden-requires : tie.Need-is-forbidden-requires
-is-forbidden-requires c κs = search needs
-
-returns-2 : tie.Need-returns-2
-unfolding translated
-returns-2 c = simp (sym (c .before .before .before .is-misaligned .ensures) ∙ c .before .before .if1 .left, sym (c .before .is-forbidden .ensures) ∙ c .if2 .taken)
-
-returns-3 : tie.Need-returns-3
-unfolding translated
-returns-3 c = simp (sym (c .before .before .before .before .is-misaligned .ensures) ∙ c .before .before .before .if1 .left, sym (c .before .before .is-forbidden .ensures) ∙ c .before .if2 .left, le-leb _ _ (c .if3 .taken))
-
-mapped-requires : tie.Need-mapped-requires
-mapped-requires c κs = search needs
-
-returns-4 : tie.Need-returns-4
-unfolding translated
-returns-4 c = simp (sym (c .before .before .before .before .before .is-misaligned .ensures) ∙ c .before .before .before .before .if1 .left, sym (c .before .before .before .is-forbidden .ensures) ∙ c .before .before .if2 .left, lt-leb _ _ (c .before .if3 .left), c .mapped .ensures)
+returns c = search needs
 
 pub translate-spec : {M : Type 1} → statement M
-translate-spec =
-    tie.close
-    (tie.spec
-    is-misaligned-requires
-    returns
-    is-forbidden-requires
-    returns-2
-    returns-3
-    mapped-requires
-    returns-4)
+translate-spec = tie.close (tie.spec index-of-requires translate-at-requires returns)

@@ -1,10 +1,10 @@
--- `runs::refusal::of_lengths` meets its contract, by the laws of Checks.
+-- `refusal::of_lengths` meets its contract, by the laws of Checks.
 use mathlib.Core.Path.{sym, _∙_}
 use borrow.Author.Tests.{not-true, not-false}
 use borrow.Author.Needs.{needs}
-use Rattle.runs.proofs.Checks.{ram-refused, rom-refused, belt-refused, lengths-pass}
-use Rattle.runs.proofs.refusal.of_lengths.Statement.{statement}
-use Rattle.runs.proofs.refusal.of_lengths.Tie as tie
+use Rattle.refusal.proofs.Checks.{ram-refused, rom-refused, belt-refused, lengths-pass}
+use Rattle.refusal.proofs.of_lengths.Statement.{statement}
+use Rattle.refusal.proofs.of_lengths.Tie as tie
 
 ram-accepted-requires : tie.Need-ram-accepted-requires
 ram-accepted-requires c κs = search needs

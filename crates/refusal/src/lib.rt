@@ -2,7 +2,7 @@
 use processor::Processor;
 ghost use mathlib.Core.Path.{_≡_};
 ghost use Rattle.processor.specs.State.{fit};
-ghost use Rattle.runs.specs.Refusal.{check, pagesUpTo, ramAccepted, lengthsChecked, stepsChecked};
+ghost use Rattle.refusal.specs.Refusal.{check, pagesUpTo, ramAccepted, lengthsChecked, stepsChecked};
 
 pub const RAM_LENGTH: u32 = 1;
 

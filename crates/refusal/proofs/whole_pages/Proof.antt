@@ -1,7 +1,7 @@
--- `runs::refusal::whole_pages` meets its contract, by the laws of Checks.
-use Rattle.runs.proofs.Checks.{pages-short, pages-long, pages-whole}
-use Rattle.runs.proofs.refusal.whole_pages.Statement.{statement}
-use Rattle.runs.proofs.refusal.whole_pages.Tie as tie
+-- `refusal::whole_pages` meets its contract, by the laws of Checks.
+use Rattle.refusal.proofs.Checks.{pages-short, pages-long, pages-whole}
+use Rattle.refusal.proofs.whole_pages.Statement.{statement}
+use Rattle.refusal.proofs.whole_pages.Tie as tie
 
 returns : tie.Need-returns
 returns c = pages-short _ _ (c .if1 .taken)

@@ -1,15 +1,11 @@
--- The checks of a run, by the tests of the code.
-use mathlib.Core.Path.{_≡_, refl, ap, sym, _∙_}
+-- The checks, by the tests of the code.
+use mathlib.Core.Path.{_≡_, refl}
 use mathlib.Core.Bool.{Bool, true, false}
 use Prim.Native.Nat.{ℕ, _%_, _≤_, _<_}
 use native.Mathlib.Omega.{arith}
 use lib.Dec.{leb, eqb}
-use lib.ListN.{length}
-use borrow.Author.Tests.{le-leb, lt-leb, leb-true, eq-eqb, ne-eqb}
-use Rattle.processor.specs.State.{fit}
-use Rattle.machine.specs.State.{Machine}
-use Rattle.runs.specs.Refusal.{check, pagesUpTo, ramAccepted, romAccepted, beltAccepted, lengthsChecked, memoryChecked, stepsChecked, runRefusal}
-use Rattle.runs.specs.Run.{outcome, runFrom, runOf}
+use borrow.Author.Tests.{le-leb, lt-leb, eq-eqb, ne-eqb}
+use Rattle.refusal.specs.Refusal.{check, pagesUpTo, ramAccepted, romAccepted, beltAccepted, lengthsChecked, stepsChecked}
 
 -- ---- a length
 
@@ -79,29 +75,3 @@ steps-refused wanted h = simp (lt-leb wanted 1000000 h)
 pub steps-pass : (wanted : ℕ) → wanted ≤ 1000000 → 0 ≡ stepsChecked wanted
 unfolding stepsChecked
 steps-pass wanted h = simp (le-leb wanted 1000000 h)
-
--- ---- a run by its refusal number
-
-module _ (kind : Bool) (m : Machine) (wanted lines r : ℕ)
-    (e : r ≡ memoryChecked (m .memory) (check (fit (m .processor)) 6 (stepsChecked wanted))) where
-  pub run-refused : (r ≡ 0 → ⊥) → outcome m r 0 32 ≡ runOf kind m wanted lines
-  unfolding runOf runRefusal
-  run-refused h = rw (← e) (simp (ne-eqb r 0 h))
-
-  pub run-accepted : r ≡ 0 → runFrom kind wanted 0 m lines ≡ runOf kind m wanted lines
-  unfolding runOf runRefusal
-  run-accepted h = rw (← e) (simp (eq-eqb r 0 h))
-
-  within : (t u v f s : Bool) → check t 1 (check u 2 (check v 3 (check f 6 (check s 7 0)))) ≡ 0 → s ≡ true
-  within true true true true true e = refl
-  within true true true true false e = absurd (omega arith)
-  within true true true false s e = absurd (omega arith)
-  within true true false f s e = absurd (omega arith)
-  within true false v f s e = absurd (omega arith)
-  within false u v f s e = absurd (omega arith)
-
-  pub steps-within : r ≡ 0 → wanted ≤ 1000000
-  unfolding lengthsChecked stepsChecked
-  steps-within h =
-      leb-true wanted 1000000 (within (ramAccepted (length (m .memory .ram))) (romAccepted (length (m .memory .rom)))
-      (beltAccepted (length (m .memory .belt))) (fit (m .processor)) (leb wanted 1000000) (sym e ∙ h))

@@ -1,10 +1,10 @@
--- `runs::refusal::of_run` meets its contract, by the laws of Checks.
+-- `refusal::of_run` meets its contract, by the laws of Checks.
 use mathlib.Core.Path.{sym, _∙_}
 use borrow.Author.Tests.{not-true, not-false}
 use borrow.Author.Needs.{needs}
-use Rattle.runs.proofs.Checks.{lengths-refused, lengths-passed, check-fails, check-passes}
-use Rattle.runs.proofs.refusal.of_run.Statement.{statement}
-use Rattle.runs.proofs.refusal.of_run.Tie as tie
+use Rattle.refusal.proofs.Checks.{lengths-refused, lengths-passed, check-fails, check-passes}
+use Rattle.refusal.proofs.of_run.Statement.{statement}
+use Rattle.refusal.proofs.of_run.Tie as tie
 
 of-lengths-requires : tie.Need-of-lengths-requires
 of-lengths-requires c κs = search needs

@@ -1,0 +1,2 @@
+-- The definitions of `refusal`.
+pub mod Refusal

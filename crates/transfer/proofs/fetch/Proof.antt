@@ -1,0 +1,54 @@
+-- `transfer::fetch` meets its contract, by the laws of Faults.
+use mathlib.Core.Path.{ap, sym, _∙_}
+use denote.Ref.{now}
+use borrow.Author.Needs.{needs}
+use Rattle.transfer.specs.Transfer.{answered, readThrough, readFrom}
+use Rattle.transfer.specs.declared.Read.the-variants.{Fault}
+use Rattle.transfer.proofs.Faults.{read-fault}
+use Rattle.memory.specs.Map.{memory}
+use Rattle.transfer.proofs.fetch.Statement.{statement}
+use Rattle.transfer.proofs.fetch.Tie as tie
+
+translate-at-requires : tie.Need-translate-at-requires
+translate-at-requires c κs = search needs
+
+enum-known-place : tie.Need-enum-known-place
+enum-known-place c = search needs
+
+eid-of-requires : tie.Need-eid-of-requires
+eid-of-requires c κs = search needs
+
+returns : tie.Need-returns
+unfolding readFrom
+returns c = ap Fault (c .eid-of .ensures) ∙ read-fault 4 (memory (now (c .before .before .before .before .before .before .args .ram)) (now (c .before .before .before .before .before .before .args .rom)) (now (c .before .before .before .before .before .before .args .belt))) (c .before .before .translate-at .result) (c .before .match .keys2) ∙ ap (readThrough 4 (memory (now (c .before .before .before .before .before .before .args .ram)) (now (c .before .before .before .before .before .before .args .rom)) (now (c .before .before .before .before .before .before .args .belt)))) (c .before .before .translate-at .ensures)
+
+load-word-requires : tie.Need-load-word-requires
+load-word-requires c κs = search needs
+
+enum-known-loaded : tie.Need-enum-known-loaded
+enum-known-loaded c = search needs
+
+enum-told : tie.Need-enum-told
+enum-told c = search needs
+
+returns-2 : tie.Need-returns-2
+unfolding readFrom
+returns-2 c = sym (ap (readThrough 4 _) (sym (c .before .before .before .before .before .before .before .translate-at .ensures) ∙ c .before .before .before .before .before .place .given .1) ∙ ap answered (sym (c .before .before .before .load-word .ensures) ∙ c .before .loaded .given .1))
+
+returns-3 : tie.Need-returns-3
+unfolding readFrom
+returns-3 c = sym (ap (readThrough 4 _) (sym (c .before .before .before .before .before .before .translate-at .ensures) ∙ c .before .before .before .before .place .given .1) ∙ ap answered (sym (c .before .before .load-word .ensures) ∙ c .enum-told .given .1))
+
+pub fetch-spec : {M : Type 1} → statement M
+fetch-spec =
+    tie.close
+    (tie.spec
+    translate-at-requires
+    enum-known-place
+    eid-of-requires
+    returns
+    load-word-requires
+    enum-known-loaded
+    enum-told
+    returns-2
+    returns-3)

@@ -1,0 +1,17 @@
+-- `translation::index_of` meets its contract, by its definition.
+use borrow.Author.Tests.{le-leb, lt-leb}
+use borrow.Author.Needs.{needs}
+use Rattle.translation.proofs.index_of.Statement.{statement}
+use Rattle.translation.proofs.index_of.Tie as tie
+
+returns : tie.Need-returns
+returns c = simp (le-leb _ _ (c .if1 .taken))
+
+find-requires : tie.Need-find-requires
+find-requires c κs = search needs
+
+returns-2 : tie.Need-returns-2
+returns-2 c = simp (lt-leb _ _ (c .before .if1 .left), c .find .ensures)
+
+pub index-of-spec : {M : Type 1} → statement M
+index-of-spec = tie.close (tie.spec returns find-requires returns-2)

@@ -1,0 +1,41 @@
+// The entry that was looked up last: in a run the next fetch mostly needs the same.
+use processor::Words;
+use processor::tlb;
+ghost use mathlib.Core.Path.{_≡_};
+ghost use lib.ListN.{getD};
+ghost use Rattle.processor.specs.Tlb.{pageOf, lookup};
+ghost use Rattle.translation.specs.Found.{Serves};
+
+pub struct Found {
+    pub page: u32,
+    pub index: usize,
+}
+
+// Entry 0: a lookup of its page would find it at once.
+pub fn first(highs: &Words) -> Found
+    ensures { λ r. ⌜ (r .page ≡ pageOf (getD (now (highs .entry)) 0 0)) × (r .index ≡ lookup (now (highs .entry)) (r .page)) ⌝ }
+{
+    Found {
+        page: highs[0] / 0x1000,
+        index: 0,
+    }
+}
+
+// The entry for an address, where the TLB maps it; otherwise the last one.
+pub fn follow(highs: &Words, last: Found, address: u32) -> Found
+    requires { ⌜ last .index ≡ lookup (now highs) (last .page) ⌝ }
+    ensures serves { λ r. ⌜ Serves (now (highs .entry)) (r .index) address ⌝ }
+    ensures page { λ r. ⌜ r .index ≡ lookup (now (highs .entry)) (r .page) ⌝ }
+{
+    if 0xC000_0000 <= address {
+        return last;
+    }
+    let page = address / 0x1000;
+    if page == last.page {
+        return last;
+    }
+    Found {
+        page: page,
+        index: tlb::find(highs, page),
+    }
+}
