@@ -1,4 +1,4 @@
--- `belttrace::advance` meets its contract, by what `machine::step` ensures.
+-- `beltstep::advance` meets its contract, by what `machine::step` ensures.
 use mathlib.Core.Path.{_≡_, ap, _∙_}
 use mathlib.Core.List.{List}
 use Prim.Native.Nat.{ℕ}
@@ -6,10 +6,10 @@ use lib.ListN.{length}
 use lib.Seq.{paste}
 use denote.Ref.{now}
 use borrow.Author.Needs.{needs}
-use Rattle.belttrace.specs.Trace.{stepLine}
-use Rattle.belttrace.proofs.Lines.{line-of-step, line-length}
-use Rattle.belttrace.proofs.advance.Statement.{statement}
-use Rattle.belttrace.proofs.advance.Tie as tie
+use Rattle.beltstep.specs.Line.{stepLine}
+use Rattle.beltstep.proofs.LineLaws.{line-of-step, line-length}
+use Rattle.beltstep.proofs.advance.Statement.{statement}
+use Rattle.beltstep.proofs.advance.Tie as tie
 
 step-requires : tie.Need-step-requires
 step-requires c κs = search needs

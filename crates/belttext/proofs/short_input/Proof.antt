@@ -1,11 +1,11 @@
--- `belttrace::short_input` meets its contract, by the law of a text in a buffer.
+-- `belttext::short_input` meets its contract, by the law of a text in a buffer.
 use mathlib.Core.Path.{refl, _∙_}
 use denote.Ref.{now}
 use borrow.Author.Needs.{needs}
-use Rattle.belttrace.specs.Trace.{shortInput}
-use Rattle.belttrace.proofs.Lines.{no-room, room}
-use Rattle.belttrace.proofs.short_input.Statement.{statement}
-use Rattle.belttrace.proofs.short_input.Tie as tie
+use Rattle.belttext.specs.Text.{shortInput}
+use Rattle.belttext.proofs.TextLaws.{no-room, room}
+use Rattle.belttext.proofs.short_input.Statement.{statement}
+use Rattle.belttext.proofs.short_input.Tie as tie
 
 returns : tie.Need-returns
 unfolding shortInput

@@ -1,13 +1,13 @@
--- `belttrace::put` meets its contract, by a loop that has copied the first i bytes.
+-- `belttext::put` meets its contract, by a loop that has copied the first i bytes.
 use mathlib.Core.Path.{_≡_, refl, ap, _∙_}
 use Prim.Native.Nat.{_-_, _≤_}
 use native.Mathlib.Omega.{arith}
 use lib.ListN.{length, length-set}
 use lib.Seq.{paste, paste-zero}
 use denote.Ref.{now}
-use Rattle.belttrace.proofs.Lines.{one-more}
-use Rattle.belttrace.proofs.put.Statement.{statement}
-use Rattle.belttrace.proofs.put.Tie as tie
+use Rattle.belttext.proofs.TextLaws.{one-more}
+use Rattle.belttext.proofs.put.Statement.{statement}
+use Rattle.belttext.proofs.put.Tie as tie
 
 abbrev Inv-loop : tie.InvT-loop
 Inv-loop text₀ at bytes i₀ text i = (i ≤ length bytes) × (text ≡ paste text₀ at bytes i) × (length text ≡ length text₀)

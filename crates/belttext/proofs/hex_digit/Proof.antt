@@ -1,9 +1,9 @@
--- `belttrace::hex_digit` meets its contract, by its definition.
+-- `belttext::hex_digit` meets its contract, by its definition.
 use borrow.Author.Tests.{lt-ltb, le-ltb}
 use borrow.Author.Needs.{needs}
-use Rattle.belttrace.specs.Text.{hexDigit}
-use Rattle.belttrace.proofs.hex_digit.Statement.{statement}
-use Rattle.belttrace.proofs.hex_digit.Tie as tie
+use Rattle.belttext.specs.Text.{hexDigit}
+use Rattle.belttext.proofs.hex_digit.Statement.{statement}
+use Rattle.belttext.proofs.hex_digit.Tie as tie
 
 cast-d : tie.Need-cast-d
 cast-d c = search needs

@@ -1,8 +1,8 @@
--- `belttrace::decimal_digit` meets its contract, by its definition.
+-- `belttext::decimal_digit` meets its contract, by its definition.
 use borrow.Author.Needs.{needs}
-use Rattle.belttrace.specs.Text.{decimalDigit}
-use Rattle.belttrace.proofs.decimal_digit.Statement.{statement}
-use Rattle.belttrace.proofs.decimal_digit.Tie as tie
+use Rattle.belttext.specs.Text.{decimalDigit}
+use Rattle.belttext.proofs.decimal_digit.Statement.{statement}
+use Rattle.belttext.proofs.decimal_digit.Tie as tie
 
 cast-result : tie.Need-cast-result
 cast-result c = search needs

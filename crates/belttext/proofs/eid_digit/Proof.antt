@@ -1,8 +1,8 @@
--- `belttrace::eid_digit` meets its contract, by the test of the EID.
+-- `belttext::eid_digit` meets its contract, by the test of the EID.
 use borrow.Author.Tests.{lt-ltb, le-ltb}
 use borrow.Author.Needs.{needs}
-use Rattle.belttrace.proofs.eid_digit.Statement.{statement}
-use Rattle.belttrace.proofs.eid_digit.Tie as tie
+use Rattle.belttext.proofs.eid_digit.Statement.{statement}
+use Rattle.belttext.proofs.eid_digit.Tie as tie
 
 decimal-digit-requires : tie.Need-decimal-digit-requires
 decimal-digit-requires c κs = search needs

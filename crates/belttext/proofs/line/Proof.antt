@@ -1,9 +1,9 @@
--- `belttrace::line` meets its contract, by what its digits are.
+-- `belttext::line` meets its contract, by what its digits are.
 use borrow.Author.Needs.{needs}
-use Rattle.belttrace.specs.Text.{hexWord, lineOf}
-use Rattle.belttrace.proofs.Lines.{eid-parts}
-use Rattle.belttrace.proofs.line.Statement.{statement}
-use Rattle.belttrace.proofs.line.Tie as tie
+use Rattle.belttext.specs.Text.{hexWord, lineOf}
+use Rattle.belttext.proofs.TextLaws.{eid-parts}
+use Rattle.belttext.proofs.line.Statement.{statement}
+use Rattle.belttext.proofs.line.Tie as tie
 
 decimal-digit-requires : tie.Need-decimal-digit-requires
 decimal-digit-requires c κs = search needs
