@@ -12,7 +12,7 @@ use Rattle.memory.specs.Map.{Memory, memory}
 use Rattle.processor.specs.declared.Processor.{Processor}
 use Rattle.processor.specs.State.{atReset, fit}
 use Rattle.machine.specs.State.{Machine, machine}
-use Rattle.record.specs.Record.{recordOf}
+use Rattle.recordlayout.specs.Record.{recordOf}
 use Rattle.record.specs.Calls.{processorRead, writeRefusal, bufferAfter}
 use Rattle.slices.specs.Same.{same}
 use Rattle.bytes.specs.Bytes.{copied, fits, patch}

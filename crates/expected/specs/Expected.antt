@@ -10,7 +10,7 @@ use Rattle.processor.specs.declared.Processor.{Processor}
 use Rattle.processor.specs.State.{atReset, fit}
 use Rattle.machine.specs.State.{Machine, machine}
 use Rattle.machine.specs.Step.{stepOf, stepEid}
-use Rattle.record.specs.Record.{recordOf}
+use Rattle.recordlayout.specs.Record.{recordOf}
 use Rattle.record.specs.Calls.{processorRead, bufferAfter}
 use Rattle.slices.specs.Same.{same}
 use Rattle.bytes.specs.Bytes.{copied, fits, patch}

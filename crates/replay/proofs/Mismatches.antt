@@ -11,7 +11,7 @@ use Rattle.words.specs.Logic.{both}
 use Rattle.words.proofs.Cases.{chosen, below-or-not}
 use Rattle.processor.specs.State.{fit}
 use Rattle.machine.specs.State.{Machine}
-use Rattle.record.specs.Record.{recordOf}
+use Rattle.recordlayout.specs.Record.{recordOf}
 use Rattle.tally.specs.declared.Counts.{Counts}
 use Rattle.slices.specs.Same.{same}
 use Rattle.tally.specs.Tally.{raised, caseBegun, stepMade, endRead, failed, judged}

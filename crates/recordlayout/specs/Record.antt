@@ -6,9 +6,9 @@ use lib.Dec.{eqb}
 use Rattle.words.specs.Logic.{both}
 use Rattle.endian.specs.BigEndian.{readAt}
 use Rattle.processor.specs.declared.Processor.{Processor}
-use Rattle.record.specs.Numbers.{bytesOf, wordBytes, pairBytes, wordsAt}
-use Rattle.record.specs.Layout.{registersKindAt, pcKindAt, specialKindAt, tlbKindAt, replacementKindAt}
-use Rattle.record.specs.Layout.{registersAt, pcAt, pswAt, indexAt, entryHighAt, entryLowAt, badAddressAt, tlbHighAt, tlbLowAt, replacementAt}
+use Rattle.arrays.specs.Numbers.{bytesOf, wordBytes, pairBytes, wordsAt}
+use Rattle.recordlayout.specs.Layout.{registersKindAt, pcKindAt, specialKindAt, tlbKindAt, replacementKindAt}
+use Rattle.recordlayout.specs.Layout.{registersAt, pcAt, pswAt, indexAt, entryHighAt, entryLowAt, badAddressAt, tlbHighAt, tlbLowAt, replacementAt}
 
 -- the five items, each a kind byte and its body: the registers, the PC, the special registers, the TLB entries, the replacement index
 unfoldable pub recordOf : Processor → List ℕ

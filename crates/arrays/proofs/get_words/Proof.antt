@@ -1,4 +1,4 @@
--- `record::get_words` meets its contract, by the laws of Loops.
+-- `arrays::get_words` meets its contract, by the laws of Loops.
 use mathlib.Core.Path.{_≡_, refl, sym, _∙_}
 use mathlib.Core.List.{_++_}
 use Prim.Native.Nat.{_<_, _+_, _*_, _-_, _≤_}
@@ -7,10 +7,10 @@ use native.Mathlib.Omega.{arith}
 use lib.ListN.{length, take, length-set}
 use denote.Ref.{now}
 use borrow.Author.Needs.{needs}
-use Rattle.record.specs.Numbers.{wordsAt}
-use Rattle.record.proofs.Loops.{in-slice, get-more, get-end}
-use Rattle.record.proofs.get_words.Statement.{statement}
-use Rattle.record.proofs.get_words.Tie as tie
+use Rattle.arrays.specs.Numbers.{wordsAt}
+use Rattle.arrays.proofs.Loops.{in-slice, get-more, get-end}
+use Rattle.arrays.proofs.get_words.Statement.{statement}
+use Rattle.arrays.proofs.get_words.Tie as tie
 
 abbrev Inv-loop : tie.InvT-loop
 Inv-loop s at stride words₀ i₀ words i = (i ≤ length words₀) × (length words ≡ length words₀) × (wordsAt (length words₀) s at stride ≡ take i words ++ wordsAt (length words₀ - i) s (at + i * stride) stride)

@@ -7,8 +7,8 @@ use native.Mathlib.Omega.{arith}
 use lib.ListN.{length, getD, take, drop, length-drop}
 use lib.Seq.{take-suc, take-add, drop-drop, drop-at, getD-drop, getD-at}
 use Rattle.endian.specs.BigEndian.{readAt}
-use Rattle.record.specs.Numbers.{bytesOf, wordBytes, pairBytes, wordsAt}
-use Rattle.record.proofs.WriteLaws.{bytes-length}
+use Rattle.arrays.specs.Numbers.{bytesOf, wordBytes, pairBytes, wordsAt}
+use Rattle.arrays.proofs.WriteLaws.{bytes-length}
 
 -- ---- what stands from a place on
 

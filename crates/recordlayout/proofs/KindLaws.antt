@@ -8,7 +8,7 @@ use lib.Dec.{eqb}
 use borrow.Author.Tests.{eqb-true, eq-eqb}
 use Rattle.words.specs.Logic.{both}
 use Rattle.endian.specs.BigEndian.{readAt}
-use Rattle.record.specs.Record.{kindsInPlace}
+use Rattle.recordlayout.specs.Record.{kindsInPlace}
 
 pub record Kinds (s : List ℕ) : Type 0 where
   pub first : readAt 1 s 0 ≡ 1

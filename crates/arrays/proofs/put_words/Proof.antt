@@ -1,4 +1,4 @@
--- `record::put_words` meets its contract, by the laws of Loops.
+-- `arrays::put_words` meets its contract, by the laws of Loops.
 use mathlib.Core.Path.{_≡_, refl, sym, _∙_}
 use Prim.Native.Nat.{_+_, _*_, _-_, _≤_}
 use native.Mathlib.Nat.{zero-mul, add-zero}
@@ -6,10 +6,10 @@ use native.Mathlib.Omega.{arith}
 use lib.ListN.{length, drop}
 use denote.Ref.{now}
 use borrow.Author.Needs.{needs}
-use Rattle.record.specs.Numbers.{wordsPut}
-use Rattle.record.proofs.Loops.{in-slice, put-more, put-end}
-use Rattle.record.proofs.put_words.Statement.{statement}
-use Rattle.record.proofs.put_words.Tie as tie
+use Rattle.arrays.specs.Numbers.{wordsPut}
+use Rattle.arrays.proofs.Loops.{in-slice, put-more, put-end}
+use Rattle.arrays.proofs.put_words.Statement.{statement}
+use Rattle.arrays.proofs.put_words.Tie as tie
 
 abbrev Inv-loop : tie.InvT-loop
 Inv-loop s₀ at stride words i₀ s i = (i ≤ length words) × (length s ≡ length s₀) × (wordsPut s₀ at stride words ≡ wordsPut s (at + i * stride) stride (drop i words))

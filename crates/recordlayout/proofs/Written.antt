@@ -6,9 +6,9 @@ use native.Mathlib.Omega.{arith}
 use lib.ListN.{length, drop, length-append, drop-of-length-le}
 use Rattle.endian.specs.BigEndian.{writeAt}
 use Rattle.processor.specs.declared.Processor.{Processor}
-use Rattle.record.specs.Numbers.{bytesOf, wordBytes, pairBytes, wordsPut}
-use Rattle.record.specs.Record.{recordOf}
-use Rattle.record.proofs.WriteLaws.{Done, bytes-length, words-length, pairs-length, next-number, next-words, next-pairs}
+use Rattle.arrays.specs.Numbers.{bytesOf, wordBytes, pairBytes, wordsPut}
+use Rattle.recordlayout.specs.Record.{recordOf}
+use Rattle.arrays.proofs.WriteLaws.{Done, bytes-length, words-length, pairs-length, next-number, next-words, next-pairs}
 
 -- the arrays of a processor have 32 words each
 pub record Arrays (p : Processor) : Type 0 where

@@ -1,9 +1,9 @@
--- `record::get` meets its contract, field by field.
+-- `recordlayout::get` meets its contract, field by field.
 use denote.Ref.{now}
 use borrow.Author.Needs.{needs}
-use Rattle.record.proofs.Answers.{fields-read}
-use Rattle.record.proofs.get.Statement.{statement}
-use Rattle.record.proofs.get.Tie as tie
+use Rattle.recordlayout.proofs.Fields.{fields-read}
+use Rattle.recordlayout.proofs.get.Statement.{statement}
+use Rattle.recordlayout.proofs.get.Tie as tie
 
 slice-aggregate-get-words : tie.Need-slice-aggregate-get-words
 slice-aggregate-get-words c = search needs

@@ -7,7 +7,7 @@ use native.Mathlib.Omega.{arith}
 use lib.ListN.{length, set, drop, length-append, length-set}
 use lib.Seq.{set-comm, drop-cons, drop-set-lt, drop-set-add, getD-set-same, lt-length-set}
 use Rattle.endian.specs.BigEndian.{writeAt}
-use Rattle.record.specs.Numbers.{bytesOf, wordBytes, pairBytes, wordsPut}
+use Rattle.arrays.specs.Numbers.{bytesOf, wordBytes, pairBytes, wordsPut}
 
 -- ---- lengths
 

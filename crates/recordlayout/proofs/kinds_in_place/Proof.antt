@@ -1,13 +1,13 @@
--- `record::kinds_in_place` meets its contract, by the kind byte that each test read.
+-- `recordlayout::kinds_in_place` meets its contract, by the kind byte that each test read.
 use mathlib.Core.Path.{ap, sym, _∙_}
 use Prim.Native.Nat.{ℕ}
 use lib.Dec.{eqb}
 use borrow.Author.Tests.{eq-eqb, ne-eqb}
 use borrow.Author.Needs.{needs}
-use Rattle.record.specs.Record.{kindsInPlace}
-use Rattle.record.proofs.KindLaws.{four-kinds}
-use Rattle.record.proofs.kinds_in_place.Statement.{statement}
-use Rattle.record.proofs.kinds_in_place.Tie as tie
+use Rattle.recordlayout.specs.Record.{kindsInPlace}
+use Rattle.recordlayout.proofs.KindLaws.{four-kinds}
+use Rattle.recordlayout.proofs.kinds_in_place.Statement.{statement}
+use Rattle.recordlayout.proofs.kinds_in_place.Tie as tie
 
 read-byte-requires : tie.Need-read-byte-requires
 read-byte-requires c κs = search needs

@@ -8,7 +8,7 @@ use native.Mathlib.Omega.{arith}
 use lib.ListN.{length, getD, set, take, drop, drop-of-length-le}
 use lib.Seq.{take-all, drop-cons, take-suc-set, append-snoc}
 use Rattle.endian.specs.BigEndian.{readAt, writeAt}
-use Rattle.record.specs.Numbers.{wordsAt, wordsPut}
+use Rattle.arrays.specs.Numbers.{wordsAt, wordsPut}
 
 -- each of n places lies in the slice, where the last does
 pub in-slice : (n stride at i size : ℕ) → at + n * stride + 4 ≤ size + stride → i < n → at + i * stride + 4 ≤ size
