@@ -7,7 +7,8 @@ use native.Mathlib.Omega.{arith}
 use lib.Dec.{ltb}
 use lib.ListN.{length, take}
 use borrow.Author.Tests.{ltb-true, ltb-false}
-use Rattle.belttrace.specs.Trace.{beltText, shortInput, answerOf, countOf}
+use Rattle.belttext.specs.Text.{shortInput, countOf}
+use Rattle.belttrace.specs.Trace.{beltText, answerOf}
 use Rattle.belttrace.proofs.Lines.{text-length, answer-short, answer-full}
 
 count-short : (text : List ℕ) → length text ≡ 56 → countOf shortInput text ≡ 12

@@ -1,50 +1,21 @@
--- The laws of a line, of four lines written one after the other, and of a text in a buffer.
+-- The laws of four lines written one after the other, and of the answer to an input.
 use mathlib.Core.Path.{_≡_, refl, ap, ap₂, sym, _∙_}
-use mathlib.Core.Bool.{Bool, true, false, cond}
-use mathlib.Core.List.{List, [], _∷_, _++_, append-assoc, append-nil}
-use Prim.Native.Nat.{ℕ, _+_, _/_, _<_, _≤_}
-use lib.Dec.{ltb}
-use lib.ListN.{length, getD, set, take, drop, replicate, length-append}
-use lib.Seq.{paste, paste-suc, take-at, take-all, drop-append-add, drop-drop}
-use native.Mathlib.Numerals.{add-one}
+use mathlib.Core.List.{List, [], _++_, append-assoc, append-nil}
+use Prim.Native.Nat.{ℕ, _+_, _<_, _≤_}
+use lib.ListN.{length, take, drop, replicate, length-append}
+use lib.Seq.{paste, take-at, take-all, drop-append-add, drop-drop}
 use native.Mathlib.Omega.{arith}
-use borrow.Author.Tests.{ltb-false, lt-ltb, le-ltb}
+use borrow.Author.Tests.{lt-ltb, le-ltb}
 use Rattle.processor.specs.State.{atReset}
 use Rattle.processor.specs.declared.Processor.{Processor}
 use Rattle.machine.specs.State.{Machine, machine}
-use Rattle.machine.specs.Step.{stepOf, stepEid}
-use Rattle.belttrace.specs.Text.{decimalDigit, hexWord, twoDigits, eidText, lineOf}
-use Rattle.belttrace.specs.Trace.{stepLine, linesFrom, atStart, beltText, shortInput, answerOf, placed, countOf}
-
--- ---- one line
-
--- one test for both digits is one for each
-each : (t : Bool) (a b : ℕ) → cond t (a ∷ b ∷ []) (45 ∷ 45 ∷ []) ≡ cond t a 45 ∷ cond t b 45 ∷ []
-each true a b = refl
-each false a b = refl
-
-pub eid-parts : (eid : ℕ)
-    → eidText eid ≡ cond (ltb eid 32) (decimalDigit (eid / 10)) 45 ∷ cond (ltb eid 32) (decimalDigit eid) 45 ∷ []
-unfolding eidText twoDigits
-eid-parts eid = each (ltb eid 32) (decimalDigit (eid / 10)) (decimalDigit eid)
-
--- a line has 14 bytes
-pub line-length : (step : ℕ) (m : Machine) → length (stepLine step m) ≡ 14
-unfolding stepLine lineOf hexWord
-line-length step m = simp eid-parts
-
--- the line of what a step answered is the line of the step
-pub line-of-step : (step : ℕ) (m : Machine) {n : Machine} {eid : ℕ} → n ≡ stepOf m 0 → eid ≡ stepEid m 0
-    → lineOf step (n .processor .pc) eid ≡ stepLine step m
-unfolding stepLine
-line-of-step step m e f = ap₂ (λ (n : Machine) (eid : ℕ). lineOf step (n .processor .pc) eid) e f
+use Rattle.machine.specs.Step.{stepOf}
+use Rattle.belttext.specs.Text.{shortInput}
+use Rattle.beltstep.specs.Line.{stepLine}
+use Rattle.beltstep.proofs.LineLaws.{line-length}
+use Rattle.belttrace.specs.Trace.{linesFrom, atStart, beltText, answerOf}
 
 -- ---- line after line
-
--- one byte more of a copy
-pub one-more : (d : List ℕ) (at : ℕ) (s : List ℕ) (i : ℕ) {t : List ℕ} → t ≡ paste d at s i → at + i < length d → i < length s
-    → set t (at + i) (getD s i 0) ≡ paste d at s (i + 1)
-one-more d at s i e h k = rw (e, add-one i) (paste-suc d at s i 0 h k)
 
 -- a line more after n bytes of text
 module _ (n step : ℕ) (m : Machine) (a s : List ℕ) (e : length a ≡ n) where
@@ -93,28 +64,10 @@ four rom s {t} {u} {v} {w} {k} {l} {m} {n} ek el em en et eu ev ew =
     let all : three ++ stepLine 4 n ≡ beltText rom = rw (en, em, el, ek) (simp (append-assoc, append-nil)) in
     fourth ∙ ap (λ (x : List ℕ). x ++ drop 56 s) all
 
--- ---- where a text of n bytes is put, and which
-
-module _ (n : ℕ) (text s : List ℕ) (e : length text ≡ n) where
-  pub no-room : length s < n → (0 ≡ countOf text s) × (s ≡ placed text s)
-  unfolding countOf placed
-  no-room h = rw e (simp (lt-ltb _ _ h) (refl, refl))
-
-  pub room : n ≤ length s → (n ≡ countOf text s) × (text ++ drop n s ≡ placed text s)
-  unfolding countOf placed
-  room h = rw e (simp (le-ltb _ _ h) (refl, refl))
+-- ---- what is written, and which answer
 
 pub room-kept : (s t : List ℕ) → length t ≡ length s → 56 ≤ length s → 56 ≤ length t
 room-kept s t e h = rw e h
-
--- what is counted lies within the buffer, which keeps its length
-pub within : (text s t : List ℕ) {r : ℕ} → r ≡ countOf text s → length t ≡ length s → r ≤ length t
-unfolding countOf
-within text s t e k = rw e (go (ltb (length s) (length text)) refl)
-  where
-    go : (b : Bool) → ltb (length s) (length text) ≡ b → cond b 0 (length text) ≤ length t
-    go true f = omega arith
-    go false f = omega (arith, ltb-false (length s) (length text) f)
 
 pub answer-short : (input : List ℕ) → length input < 4096 → answerOf input ≡ shortInput
 unfolding answerOf

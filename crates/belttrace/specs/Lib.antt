@@ -1,3 +1,2 @@
--- The definitions of `belttrace`, in the order to read them.
-pub mod Text
+-- The definitions of `belttrace`.
 pub mod Trace

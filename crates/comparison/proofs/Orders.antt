@@ -8,7 +8,7 @@ use lib.Signed.{ltZ, leZ}
 use lib.IntN.{ℤ, pos, negsuc}
 use borrow.Author.Tests.{lt-ltb, le-ltb, le-leb, lt-leb, eq-eqb, ne-eqb, eqb-true, eqb-false}
 use Rattle.words.specs.Numbers.{truncate, signed}
-use Rattle.computation.specs.Computation.{sum}
+use Rattle.sums.specs.Sums.{sum}
 use Rattle.comparison.specs.Comparison.{unsignedHolds, signedHolds}
 use Rattle.comparison.specs.declared.Order.{Order}
 use Rattle.comparison.specs.declared.Order.the-variants.{Equal, NotEqual, LessOrEqual, Less, GreaterOrEqual, Greater}

@@ -28,7 +28,7 @@ pub fn unsigned_holds(order: Order, x: u32, y: u32) -> bool
 pub fn signed_holds(order: Order, x: u32, y: u32) -> bool
     ensures { λ r. ⌜ r ≡ signedHolds order x y ⌝ }
 {
-    let a = computation::add(x, 0x8000_0000);
-    let b = computation::add(y, 0x8000_0000);
+    let a = sums::add(x, 0x8000_0000);
+    let b = sums::add(y, 0x8000_0000);
     unsigned_holds(order, a, b)
 }

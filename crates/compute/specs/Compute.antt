@@ -3,7 +3,10 @@ use mathlib.Core.Bool.{cond}
 use mathlib.Core.List.{List, [], _∷_}
 use Prim.Native.Nat.{ℕ}
 use lib.Dec.{eqb}
-use Rattle.computation.specs.Computation.{sum, difference, signedProduct, unsignedProduct, signedQuotient, unsignedQuotient, signedRemainder, unsignedRemainder, and, or, xor, xnor, shiftLeft, shiftRight, shiftArithmetic, loadHigh}
+use Rattle.sums.specs.Sums.{sum, difference, signedProduct, unsignedProduct}
+use Rattle.quotients.specs.Quotients.{signedQuotient, unsignedQuotient, signedRemainder, unsignedRemainder}
+use Rattle.bitwise.specs.Bitwise.{and, or, xor, xnor}
+use Rattle.shifts.specs.Shifts.{shiftLeft, shiftRight, shiftArithmetic, loadHigh}
 use Rattle.instructions.specs.Operands.{Operands, Simple, immediateS, immediateZ, intoR, intoY, fault, illegal}
 use Rattle.instructions.specs.declared.Action.{Action}
 

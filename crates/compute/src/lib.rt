@@ -5,7 +5,7 @@ use words::extension;
 ghost use mathlib.Core.Path.{_≡_};
 ghost use Prim.Native.Nat.{_≤_};
 ghost use lib.ListN.{getD};
-ghost use Rattle.computation.specs.Computation.{signedQuotient, unsignedQuotient, signedRemainder, unsignedRemainder};
+ghost use Rattle.quotients.specs.Quotients.{signedQuotient, unsignedQuotient, signedRemainder, unsignedRemainder};
 ghost use Rattle.instructions.specs.Operands.{operands, illegal};
 ghost use Rattle.compute.specs.Compute.{unlessZero, computations};
 
@@ -15,7 +15,7 @@ fn quotient_signed(number: u32, x: u32, y: u32, next: u32) -> Action
     if y == 0 {
         return Action::Exception(Processor::DIVISION_BY_ZERO, 0, 0);
     }
-    Action::Write(number, computation::divide_signed(x, y), next)
+    Action::Write(number, quotients::divide_signed(x, y), next)
 }
 
 fn quotient_unsigned(number: u32, x: u32, y: u32, next: u32) -> Action
@@ -24,7 +24,7 @@ fn quotient_unsigned(number: u32, x: u32, y: u32, next: u32) -> Action
     if y == 0 {
         return Action::Exception(Processor::DIVISION_BY_ZERO, 0, 0);
     }
-    Action::Write(number, computation::divide_unsigned(x, y), next)
+    Action::Write(number, quotients::divide_unsigned(x, y), next)
 }
 
 fn remaining_signed(number: u32, x: u32, y: u32, next: u32) -> Action
@@ -33,7 +33,7 @@ fn remaining_signed(number: u32, x: u32, y: u32, next: u32) -> Action
     if y == 0 {
         return Action::Exception(Processor::DIVISION_BY_ZERO, 0, 0);
     }
-    Action::Write(number, computation::remainder_signed(x, y), next)
+    Action::Write(number, quotients::remainder_signed(x, y), next)
 }
 
 fn remaining_unsigned(number: u32, x: u32, y: u32, next: u32) -> Action
@@ -42,7 +42,7 @@ fn remaining_unsigned(number: u32, x: u32, y: u32, next: u32) -> Action
     if y == 0 {
         return Action::Exception(Processor::DIVISION_BY_ZERO, 0, 0);
     }
-    Action::Write(number, computation::remainder_unsigned(x, y), next)
+    Action::Write(number, quotients::remainder_unsigned(x, y), next)
 }
 
 // Opcodes 00 to 1F. x and y are the registers of bits 25..21 and 20..16.
@@ -54,14 +54,14 @@ pub fn arithmetic(opcode: u32, x: u32, y: u32, word: u32, next: u32) -> Action
     let s = extension::sign_extend_16(word);
     let z = extension::zero_extend_16(word);
     match opcode {
-        0x00 => Action::Write(r, computation::add(x, y), next),
-        0x01 => Action::Write(n, computation::add(x, s), next),
-        0x02 => Action::Write(r, computation::subtract(x, y), next),
-        0x03 => Action::Write(n, computation::subtract(x, s), next),
-        0x04 => Action::Write(r, computation::multiply(x, y), next),
-        0x05 => Action::Write(n, computation::multiply(x, s), next),
-        0x06 => Action::Write(r, computation::multiply(x, y), next),
-        0x07 => Action::Write(n, computation::multiply(x, z), next),
+        0x00 => Action::Write(r, sums::add(x, y), next),
+        0x01 => Action::Write(n, sums::add(x, s), next),
+        0x02 => Action::Write(r, sums::subtract(x, y), next),
+        0x03 => Action::Write(n, sums::subtract(x, s), next),
+        0x04 => Action::Write(r, sums::multiply(x, y), next),
+        0x05 => Action::Write(n, sums::multiply(x, s), next),
+        0x06 => Action::Write(r, sums::multiply(x, y), next),
+        0x07 => Action::Write(n, sums::multiply(x, z), next),
         0x08 => quotient_signed(r, x, y, next),
         0x09 => quotient_signed(n, x, s, next),
         0x0A => quotient_unsigned(r, x, y, next),
@@ -83,21 +83,21 @@ fn logic(opcode: u32, x: u32, y: u32, word: u32, next: u32) -> Action
     let n = word / 0x1_0000 % 32;
     let z = extension::zero_extend_16(word);
     match opcode {
-        0x10 => Action::Write(r, computation::and(x, y), next),
-        0x11 => Action::Write(n, computation::and(x, z), next),
-        0x12 => Action::Write(r, computation::or(x, y), next),
-        0x13 => Action::Write(n, computation::or(x, z), next),
-        0x14 => Action::Write(r, computation::xor(x, y), next),
-        0x15 => Action::Write(n, computation::xor(x, z), next),
-        0x16 => Action::Write(r, computation::xnor(x, y), next),
-        0x17 => Action::Write(n, computation::xnor(x, z), next),
-        0x18 => Action::Write(r, computation::shift_left(x, y), next),
-        0x19 => Action::Write(n, computation::shift_left(x, z), next),
-        0x1A => Action::Write(r, computation::shift_right(x, y), next),
-        0x1B => Action::Write(n, computation::shift_right(x, z), next),
-        0x1C => Action::Write(r, computation::shift_arithmetic(x, y), next),
-        0x1D => Action::Write(n, computation::shift_arithmetic(x, z), next),
-        0x1F => Action::Write(n, computation::load_high(word), next),
+        0x10 => Action::Write(r, bitwise::and(x, y), next),
+        0x11 => Action::Write(n, bitwise::and(x, z), next),
+        0x12 => Action::Write(r, bitwise::or(x, y), next),
+        0x13 => Action::Write(n, bitwise::or(x, z), next),
+        0x14 => Action::Write(r, bitwise::xor(x, y), next),
+        0x15 => Action::Write(n, bitwise::xor(x, z), next),
+        0x16 => Action::Write(r, bitwise::xnor(x, y), next),
+        0x17 => Action::Write(n, bitwise::xnor(x, z), next),
+        0x18 => Action::Write(r, shifts::shift_left(x, y), next),
+        0x19 => Action::Write(n, shifts::shift_left(x, z), next),
+        0x1A => Action::Write(r, shifts::shift_right(x, y), next),
+        0x1B => Action::Write(n, shifts::shift_right(x, z), next),
+        0x1C => Action::Write(r, shifts::shift_arithmetic(x, y), next),
+        0x1D => Action::Write(n, shifts::shift_arithmetic(x, z), next),
+        0x1F => Action::Write(n, shifts::load_high(word), next),
         _ => Action::Exception(Processor::ILLEGAL_INSTRUCTION, 0, 0),
     }
 }

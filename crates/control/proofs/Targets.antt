@@ -4,7 +4,8 @@ use mathlib.Core.Bool.{true, false}
 use Prim.Native.Nat.{ℕ, _+_, _*_, _%_, _^_}
 use native.Mathlib.Nat.{mul-comm, add-mod-mod}
 use Rattle.words.specs.Numbers.{truncate, signExtend}
-use Rattle.computation.specs.Computation.{sum, shiftLeft}
+use Rattle.sums.specs.Sums.{sum}
+use Rattle.shifts.specs.Shifts.{shiftLeft}
 use Rattle.control.specs.Control.{target, branch}
 use Rattle.instructions.specs.declared.Action.the-variants.{Write}
 

@@ -11,19 +11,13 @@ ghost use Rattle.control.specs.Control.{target, branch, controls};
 fn target_16(word: u32, next: u32) -> u32
     ensures { λ r. ⌜ r ≡ target 16 word next ⌝ }
 {
-    computation::add(
-        next,
-        computation::shift_left(extension::sign_extend_16(word), 2),
-    )
+    sums::add(next, shifts::shift_left(extension::sign_extend_16(word), 2))
 }
 
 fn target_26(word: u32, next: u32) -> u32
     ensures { λ r. ⌜ r ≡ target 26 word next ⌝ }
 {
-    computation::add(
-        next,
-        computation::shift_left(extension::sign_extend_26(word), 2),
-    )
+    sums::add(next, shifts::shift_left(extension::sign_extend_26(word), 2))
 }
 
 fn branch(holds: bool, word: u32, next: u32) -> Action

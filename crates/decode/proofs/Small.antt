@@ -5,7 +5,10 @@ use native.Mathlib.Omega.{arith}
 use lib.Dec.{eqb}
 use Rattle.words.specs.Numbers.{signExtend, zeroExtend}
 use Rattle.words.proofs.Cases.{chosen}
-use Rattle.computation.proofs.Sizes.{sum-lt, difference-lt, signed-product-lt, unsigned-product-lt, signed-quotient-lt, unsigned-quotient-lt, signed-remainder-lt, unsigned-remainder-lt, and-lt, or-lt, xor-lt, xnor-lt, shift-left-lt, shift-right-lt, shift-arithmetic-lt, load-high-lt, zero-16-lt, zero-8-lt, sign-16-lt, sign-8-lt}
+use Rattle.sums.proofs.Sizes.{sum-lt, difference-lt, signed-product-lt, unsigned-product-lt, zero-16-lt, zero-8-lt, sign-16-lt, sign-8-lt}
+use Rattle.quotients.proofs.Sizes.{signed-quotient-lt, unsigned-quotient-lt, signed-remainder-lt, unsigned-remainder-lt}
+use Rattle.bitwise.proofs.Sizes.{and-lt, or-lt, xor-lt, xnor-lt}
+use Rattle.shifts.proofs.Sizes.{shift-left-lt, shift-right-lt, shift-arithmetic-lt, load-high-lt}
 use Rattle.memory.specs.Map.{Memory}
 use Rattle.memory.specs.Access.{loadOf, storeAnswer}
 use Rattle.memory.specs.declared.Loaded.{Loaded}

@@ -10,7 +10,7 @@ use borrow.Author.Tests.{eq-eqb, ne-eqb, eqb-true, leb-true}
 use Rattle.memory.specs.Map.{Memory}
 use Rattle.processor.specs.declared.Processor.{Processor}
 use Rattle.processor.proofs.FitLaws.{Fit, fit-means}
-use Rattle.record.specs.Record.{recordOf, processorOf}
+use Rattle.recordlayout.specs.Record.{recordOf, processorOf}
 use Rattle.record.specs.Calls.{readRefusal, processorRead}
 use Rattle.record.proofs.Answers.{accepted-means, read-accepted}
 use Rattle.record.proofs.ReadWritten.{read-written}

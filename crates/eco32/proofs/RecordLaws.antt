@@ -10,7 +10,7 @@ use borrow.Author.Tests.{eq-eqb, ne-eqb}
 use Rattle.processor.specs.declared.Processor.{Processor}
 use Rattle.processor.specs.State.{atReset}
 use Rattle.processor.proofs.FitLaws.{fit-means}
-use Rattle.record.specs.Record.{recordOf}
+use Rattle.recordlayout.specs.Record.{recordOf}
 use Rattle.record.specs.Calls.{readRefusal, processorRead}
 use Rattle.record.proofs.Answers.{read-fit}
 use Rattle.record.proofs.ReadWritten.{read-written}

@@ -9,7 +9,7 @@ use lib.ListN.{length}
 use borrow.Author.Tests.{eq-eqb, ne-eqb}
 use Rattle.processor.specs.State.{fit}
 use Rattle.processor.specs.declared.Processor.{Processor}
-use Rattle.record.specs.Record.{processorOf}
+use Rattle.recordlayout.specs.Record.{processorOf}
 use Rattle.record.specs.Calls.{readRefusal, processorRead}
 use Rattle.record.proofs.Answers.{accepted-means, read-accepted}
 use Rattle.refusal.specs.Refusal.{ramAccepted, check}

@@ -5,8 +5,8 @@ use Prim.Native.Nat.{ℕ}
 use lib.Dec.{eqb}
 use lib.ListN.{length}
 use Rattle.processor.specs.State.{atReset}
-use Rattle.record.specs.Layout.{recordLength}
-use Rattle.record.specs.Record.{recordOf}
+use Rattle.recordlayout.specs.Layout.{recordLength}
+use Rattle.recordlayout.specs.Record.{recordOf}
 use Rattle.record.specs.Calls.{readRefusal, processorRead}
 
 -- cause 4 of a buffer that is to be written, and then what the checks after it say

@@ -4,7 +4,7 @@ use mathlib.Core.List.{List}
 use Prim.Native.Nat.{ℕ}
 use lib.Dec.{eqb}
 use Rattle.memory.specs.Map.{Memory}
-use Rattle.record.specs.Record.{recordOf, processorOf}
+use Rattle.recordlayout.specs.Record.{recordOf, processorOf}
 use Rattle.machine.specs.State.{Machine}
 use Rattle.refusal.specs.Refusal.{memoryChecked, stepsChecked}
 use Rattle.runs.specs.Run.{Answer, answer, Outcome, runFrom}

@@ -4,7 +4,7 @@ use mathlib.Core.List.{List}
 use Prim.Native.Nat.{ℕ}
 use lib.Dec.{eqb}
 use lib.ListN.{length}
-use Rattle.record.specs.Record.{processorOf}
+use Rattle.recordlayout.specs.Record.{processorOf}
 use Rattle.refusal.specs.Refusal.{ramAccepted, check}
 use Rattle.view.specs.View.{hasFrame, lookedUp, offsetOf}
 use Rattle.eco32.specs.Records.{recordChecked}

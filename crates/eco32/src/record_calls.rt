@@ -12,7 +12,7 @@ pub extern "C" fn eco32_reset(machine: &mut [u8]) -> u32
     if machine.len() != record::LENGTH {
         return record::WRONG_LENGTH;
     }
-    record::put(Processor::reset(), machine);
+    recordlayout::put(Processor::reset(), machine);
     record::ACCEPTED
 }
 
@@ -31,7 +31,7 @@ fn copy(from: &[u8], buffer: &mut [u8]) -> u32
     if reading.refusal != record::ACCEPTED {
         return reading.refusal;
     }
-    record::put(reading.processor, buffer);
+    recordlayout::put(reading.processor, buffer);
     record::ACCEPTED
 }
 

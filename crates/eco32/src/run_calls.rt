@@ -56,7 +56,7 @@ fn call(
         lines as u32,
         kind,
     );
-    record::put(ran.processor, machine);
+    recordlayout::put(ran.processor, machine);
     Answer {
         refusal: ran.refusal,
         steps: ran.steps,

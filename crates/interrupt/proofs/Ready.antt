@@ -8,8 +8,8 @@ use lib.Bits.{bitAnd, and-le-r}
 use lib.Dec.{eqb}
 use borrow.Author.Tests.{eq-eqb, ne-eqb, eqb-false}
 use Rattle.words.specs.Numbers.{bit}
-use Rattle.computation.specs.Computation.{and}
-use Rattle.computation.proofs.BitLaws.{and-bit}
+use Rattle.bitwise.specs.Bitwise.{and}
+use Rattle.bitwise.proofs.BitLaws.{and-bit}
 use Rattle.status.specs.Psw.{interruptCurrent, enabled}
 use Rattle.interrupt.specs.Interrupt.{lowest, channel}
 

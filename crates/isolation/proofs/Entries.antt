@@ -10,10 +10,10 @@ use borrow.Author.Tests.{eq-eqb}
 use Rattle.words.proofs.Cases.{below-or-not}
 use Rattle.memory.specs.Map.{Memory}
 use Rattle.processor.specs.State.{fit}
-use Rattle.record.specs.Record.{recordOf, kindsInPlace, processorOf}
+use Rattle.recordlayout.specs.Record.{recordOf, kindsInPlace, processorOf}
 use Rattle.record.specs.Calls.{readRefusal}
-use Rattle.record.proofs.KindLaws.{means-kinds}
-use Rattle.record.proofs.Written.{record-length}
+use Rattle.recordlayout.proofs.KindLaws.{means-kinds}
+use Rattle.recordlayout.proofs.Written.{record-length}
 use Rattle.record.proofs.WrittenRead.{Value, holds}
 use Rattle.machine.specs.State.{Machine, Words32, Representable}
 use Rattle.refusal.specs.Refusal.{check, memoryChecked, stepsChecked, runRefusal}

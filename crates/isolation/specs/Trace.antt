@@ -9,7 +9,7 @@ use Rattle.machine.specs.State.{Machine}
 use Rattle.machine.specs.Step.{stepOf, stepEid}
 use Rattle.refusal.specs.Refusal.{runRefusal}
 use Rattle.runs.specs.Run.{Answer, Outcome, ends, runOf}
-use Rattle.record.specs.Record.{recordOf}
+use Rattle.recordlayout.specs.Record.{recordOf}
 use Rattle.eco32.specs.Runs.{Called, machineIn, callRefusal, callOf}
 
 -- PSW bit 26 is 1

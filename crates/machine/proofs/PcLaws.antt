@@ -5,7 +5,7 @@ use Prim.Native.Nat.{ℕ}
 use lib.Dec.{eqb}
 use lib.ListN.{getD}
 use borrow.Author.Tests.{ne-eqb}
-use Rattle.computation.specs.Computation.{sum}
+use Rattle.sums.specs.Sums.{sum}
 use Rattle.words.proofs.Cases.{chosen}
 use Rattle.processor.specs.declared.Processor.{Processor}
 use Rattle.processor.specs.Exception.{returned}

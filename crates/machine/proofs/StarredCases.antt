@@ -5,7 +5,9 @@ use mathlib.Core.List.{List, [], _∷_, _++_}
 use Prim.Native.Nat.{ℕ, _+_, _/_, _%_}
 use lib.ListN.{replicate, getD, set}
 use Rattle.words.specs.Numbers.{bit, truncate, signExtend, zeroExtend, signed, wordOf}
-use Rattle.computation.specs.Computation.{sum, difference, signedQuotient, shiftArithmetic}
+use Rattle.sums.specs.Sums.{sum, difference}
+use Rattle.quotients.specs.Quotients.{signedQuotient}
+use Rattle.shifts.specs.Shifts.{shiftArithmetic}
 use Rattle.comparison.specs.Comparison.{signedHolds, unsignedHolds}
 use Rattle.endian.specs.BigEndian.{readAt, writeAt}
 use Rattle.memory.specs.Map.{memory, within, locate, placeOf}

@@ -1,7 +1,7 @@
 -- A fit state stays fit over every step.
 use Prim.Native.Nat.{ℕ}
 use lib.Dec.{eqb}
-use Rattle.computation.specs.Computation.{sum}
+use Rattle.sums.specs.Sums.{sum}
 use Rattle.words.proofs.Cases.{chosen}
 use Rattle.processor.specs.declared.Processor.{Processor}
 use Rattle.processor.specs.Register.{jumped, special}

@@ -5,9 +5,9 @@ use Prim.Native.Nat.{ℕ, zero, suc, _^_, _<_}
 use native.Mathlib.Omega.{arith}
 use lib.Dec.{eqb, ltb}
 use lib.ListN.{length, getD, List·getD-eq-default}
-use Rattle.computation.specs.Computation.{sum}
+use Rattle.sums.specs.Sums.{sum}
 use Rattle.words.proofs.Cases.{chosen, below-or-not}
-use Rattle.computation.proofs.Sizes.{sum-lt}
+use Rattle.sums.proofs.Sizes.{sum-lt}
 use Rattle.memory.specs.Access.{memoryAfter}
 use Rattle.memory.proofs.Bytewise.{Bytewise, store-bytewise}
 use Rattle.processor.specs.declared.Processor.{Processor}

@@ -2,7 +2,7 @@
 use mathlib.Core.Path.{_≡_, ap, _∙_}
 use Prim.Native.Nat.{ℕ}
 use borrow.Author.Tests.{ne-eqb}
-use Rattle.computation.specs.Computation.{sum}
+use Rattle.sums.specs.Sums.{sum}
 use Rattle.processor.specs.Register.{jumped}
 use Rattle.processor.specs.Tlb.{indexedWritten}
 use Rattle.processor.specs.declared.Processor.{Processor}

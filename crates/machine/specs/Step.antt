@@ -4,7 +4,7 @@ use mathlib.Core.List.{List}
 use Prim.Native.Nat.{ℕ}
 use lib.Dec.{ltb, eqb}
 use lib.ListN.{getD}
-use Rattle.computation.specs.Computation.{sum}
+use Rattle.sums.specs.Sums.{sum}
 use Rattle.memory.specs.Map.{Memory}
 use Rattle.memory.specs.Access.{memoryAfter}
 use Rattle.processor.specs.declared.Processor.{Processor}

@@ -48,7 +48,7 @@ pub fn look_at<'a>(
             rom,
             belt,
             word,
-            computation::add(pc, 4),
+            sums::add(pc, 4),
         ),
         Read::Fault(eid) => Action::Exception(eid, pc, 0),
     }
@@ -86,7 +86,7 @@ pub fn store(ram: &mut [u8], rom: &[u8], belt: &mut [u8], width: u32, physical: 
 pub fn system(p: Processor, opcode: u32, z: u32, v: u32) -> Processor
     ensures { λ r. ⌜ r ≡ systemDone opcode z v p ⌝ }
 {
-    let next = computation::add(p.pc, 4);
+    let next = sums::add(p.pc, 4);
     match opcode {
         0x2F => p.leave(),
         0x38 => p.write(v, p.special(z), next),
@@ -124,7 +124,7 @@ pub fn step(p: Processor, ram: &mut [u8], rom: &[u8], belt: &mut [u8], lines: u3
         Action::Store(width, physical, v) => {
             store(ram, rom, belt, width, physical, v);
             Stepped {
-                processor: p.jump(computation::add(p.pc, 4)),
+                processor: p.jump(sums::add(p.pc, 4)),
                 eid: Processor::NO_EXCEPTION,
             }
         }

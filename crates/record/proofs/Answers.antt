@@ -7,42 +7,13 @@ use native.Mathlib.Omega.{arith}
 use lib.Dec.{eqb}
 use lib.ListN.{length}
 use borrow.Author.Tests.{eqb-true, eq-eqb, ne-eqb}
-use Rattle.endian.specs.BigEndian.{readAt}
 use Rattle.processor.specs.declared.Processor.{Processor}
 use Rattle.processor.specs.State.{atReset, fit}
 use Rattle.processor.proofs.FitKept.{reset-fit}
-use Rattle.record.specs.Numbers.{wordsAt}
-use Rattle.record.specs.Record.{recordOf, kindsInPlace, processorOf}
+use Rattle.recordlayout.specs.Record.{recordOf, kindsInPlace, processorOf}
 use Rattle.record.specs.Calls.{readRefusal, processorRead, writeRefusal, bufferAfter}
 
 module _ (s : List ℕ) where
-  -- the processor, from its fields
-  pub fields-read : {registers tlbhigh tlblow : List ℕ} {pc psw index entryhigh entrylow badaddress replacement : ℕ}
-      → registers ≡ wordsAt 32 s 1 4
-      → tlbhigh ≡ wordsAt 32 s 156 8
-      → tlblow ≡ wordsAt 32 s 160 8
-      → pc ≡ readAt 4 s 130
-      → psw ≡ readAt 4 s 135
-      → index ≡ readAt 4 s 139
-      → entryhigh ≡ readAt 4 s 143
-      → entrylow ≡ readAt 4 s 147
-      → badaddress ≡ readAt 4 s 151
-      → replacement ≡ readAt 1 s 413
-      → _≡_ {A = Processor} (record {
-        registers = registers;
-        pc = pc;
-        psw = psw;
-        index = index;
-        entryhigh = entryhigh;
-        entrylow = entrylow;
-        badaddress = badaddress;
-        tlbhigh = tlbhigh;
-        tlblow = tlblow;
-        replacement = replacement;
-      }) (processorOf s)
-  unfolding processorOf
-  fields-read a b c d e f g h i j = rw (a, b, c, d, e, f, g, h, i, j)
-
   -- what a reading with a refusal number hands back
   handed : (n : ℕ) (p : Processor) → n ≡ readRefusal s → cond (eqb n 0) (processorOf s) atReset ≡ p → (n ≡ readRefusal s) × (p ≡ processorRead s)
   unfolding processorRead

@@ -6,13 +6,13 @@ use native.Mathlib.Omega.{arith}
 use lib.ListN.{length, getD, take}
 use lib.Seq.{take-all}
 use Rattle.endian.specs.BigEndian.{readAt}
-use Rattle.record.specs.Numbers.{wordsAt}
-use Rattle.record.specs.Record.{recordOf, processorOf}
+use Rattle.arrays.specs.Numbers.{wordsAt}
+use Rattle.recordlayout.specs.Record.{recordOf, processorOf}
 use Rattle.record.specs.Calls.{readRefusal, processorRead, writeRefusal, bufferAfter}
-use Rattle.record.proofs.KindLaws.{Kinds, kinds-mean}
-use Rattle.record.proofs.Written.{bytesWritten, same-bytes}
+use Rattle.recordlayout.proofs.KindLaws.{Kinds, kinds-mean}
+use Rattle.recordlayout.proofs.Written.{bytesWritten, same-bytes}
 use Rattle.record.proofs.Answers.{accepted-means, read-accepted, read-fit, write-accepted}
-use Rattle.record.proofs.ReadLaws.{number-joins, words-join, pairs-join}
+use Rattle.arrays.proofs.ReadLaws.{number-joins, words-join, pairs-join}
 
 module _ (s : List ℕ) (h : (j : ℕ) → getD s j 0 < 256) where
   same-record : length s ≡ 414 → Kinds s → recordOf (processorOf s) ≡ s

@@ -7,14 +7,15 @@ use native.Mathlib.Omega.{arith}
 use lib.ListN.{length, getD, drop}
 use Rattle.processor.specs.declared.Processor.{Processor}
 use Rattle.processor.specs.State.{fit}
-use Rattle.record.specs.Numbers.{bytesOf, wordBytes, pairBytes, wordsAt}
-use Rattle.record.specs.Record.{recordOf, processorOf}
+use Rattle.arrays.specs.Numbers.{bytesOf, wordBytes, pairBytes, wordsAt}
+use Rattle.recordlayout.specs.Record.{recordOf, processorOf}
 use Rattle.record.specs.Calls.{readRefusal, processorRead, bufferAfter}
-use Rattle.record.proofs.KindLaws.{Kinds, means-kinds}
-use Rattle.record.proofs.WriteLaws.{bytes-length, words-length, pairs-length}
-use Rattle.record.proofs.Written.{Arrays, specials, one-byte, record-length}
-use Rattle.record.proofs.Answers.{fields-read, read-accepted, write-accepted}
-use Rattle.record.proofs.ReadLaws.{past, number-read, byte-read, words-read, pairs-read}
+use Rattle.recordlayout.proofs.KindLaws.{Kinds, means-kinds}
+use Rattle.arrays.proofs.WriteLaws.{bytes-length, words-length, pairs-length}
+use Rattle.recordlayout.proofs.Written.{Arrays, specials, one-byte, record-length}
+use Rattle.recordlayout.proofs.Fields.{fields-read}
+use Rattle.record.proofs.Answers.{read-accepted, write-accepted}
+use Rattle.arrays.proofs.ReadLaws.{past, number-read, byte-read, words-read, pairs-read}
 
 -- a value of the code's type: 32 words in each array, and every number below 2 ^ 32
 pub record Value (p : Processor) : Type 0 where

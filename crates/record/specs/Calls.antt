@@ -6,8 +6,8 @@ use lib.Dec.{eqb}
 use lib.ListN.{length}
 use Rattle.processor.specs.declared.Processor.{Processor}
 use Rattle.processor.specs.State.{atReset, fit}
-use Rattle.record.specs.Layout.{recordLength}
-use Rattle.record.specs.Record.{recordOf, kindsInPlace, processorOf}
+use Rattle.recordlayout.specs.Layout.{recordLength}
+use Rattle.recordlayout.specs.Record.{recordOf, kindsInPlace, processorOf}
 
 -- causes 4, 5 and 6, tested in this order
 unfoldable pub readRefusal : List ℕ → ℕ

@@ -1,5 +1,2 @@
--- The definitions of `record`, in the order to read them.
-pub mod Numbers
-pub mod Layout
-pub mod Record
+-- The definitions of `record`.
 pub mod Calls

@@ -11,9 +11,9 @@ use Rattle.endian.specs.BigEndian.{readAt}
 use Rattle.machine.specs.State.{Machine}
 use Rattle.machine.specs.Step.{stepOf, stepEid}
 use Rattle.record.specs.Calls.{readRefusal}
-use Rattle.replay.specs.declared.tally.Counts.{Counts}
-use Rattle.replay.specs.Tally.{caseBegun, stepMade, endRead, judged}
-use Rattle.replay.specs.Expected.{Expected, clear, patchFits, patched, startedIn, stepAgrees}
+use Rattle.tally.specs.declared.Counts.{Counts}
+use Rattle.tally.specs.Tally.{caseBegun, stepMade, endRead, judged}
+use Rattle.expected.specs.Expected.{Expected, clear, patchFits, patched, startedIn, stepAgrees}
 use Rattle.replay.specs.Replay.{Tallies, Replay, replay, opcodeAt, tallied, good, done, afterJudging, commanded, commandedAt, replayedFrom, replayed}
 
 -- ---- one command

@@ -11,14 +11,14 @@ use Rattle.words.specs.Logic.{both}
 use Rattle.words.proofs.Cases.{chosen, below-or-not}
 use Rattle.processor.specs.State.{fit}
 use Rattle.machine.specs.State.{Machine}
-use Rattle.record.specs.Record.{recordOf}
-use Rattle.replay.specs.declared.tally.Counts.{Counts}
+use Rattle.recordlayout.specs.Record.{recordOf}
+use Rattle.tally.specs.declared.Counts.{Counts}
 use Rattle.slices.specs.Same.{same}
-use Rattle.replay.specs.Tally.{raised, caseBegun, stepMade, endRead, failed, judged}
-use Rattle.replay.specs.Expected.{Expected, recordAgrees, memoryAgrees, agrees, stepAgrees}
+use Rattle.tally.specs.Tally.{raised, caseBegun, stepMade, endRead, failed, judged}
+use Rattle.expected.specs.Expected.{Expected, recordAgrees, memoryAgrees, agrees, stepAgrees}
 use Rattle.replay.specs.Replay.{Replay, good, done, afterJudging, commanded, goodAt, commandedAt, replayedFrom, allGoodFrom, replayed, finished}
 use Rattle.slices.proofs.SameLaws.{both-hold, same-equal, same-self}
-use Rattle.replay.proofs.TallyLaws.{raised-more, raised-most}
+use Rattle.tally.proofs.TallyLaws.{raised-more, raised-most}
 
 -- ---- what agreement says
 

@@ -8,8 +8,8 @@ use Rattle.transfer.specs.Transfer.{readFrom}
 use Rattle.transfer.specs.declared.Read.the-variants.{Value, Fault}
 use Rattle.machine.specs.State.{Machine}
 use Rattle.machine.specs.Step.{stepOf, stepEid, surroundingsOf}
-use Rattle.replay.specs.Tally.{raisedAt}
-use Rattle.replay.specs.Expected.{Expected, agrees, stepAgrees}
+use Rattle.tally.specs.Tally.{raisedAt}
+use Rattle.expected.specs.Expected.{Expected, agrees, stepAgrees}
 use Rattle.replay.specs.Replay.{opcodeRead, opcodeAt, Tallies, tallies, tallied}
 
 module _ (m : Machine) where

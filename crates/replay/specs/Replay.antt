@@ -12,9 +12,9 @@ use Rattle.transfer.specs.declared.Read.the-variants.{Value, Fault}
 use Rattle.machine.specs.State.{Machine}
 use Rattle.machine.specs.Step.{stepOf, stepEid, surroundingsOf}
 use Rattle.record.specs.Calls.{readRefusal}
-use Rattle.replay.specs.Tally.{raisedAt, caseBegun, stepMade, endRead, judged}
-use Rattle.replay.specs.Expected.{Expected, expected, clear, patchFits, patched, startedIn, stepAgrees}
-use Rattle.replay.specs.declared.tally.Counts.{Counts}
+use Rattle.tally.specs.Tally.{raisedAt, caseBegun, stepMade, endRead, judged}
+use Rattle.expected.specs.Expected.{Expected, expected, clear, patchFits, patched, startedIn, stepAgrees}
+use Rattle.tally.specs.declared.Counts.{Counts}
 
 -- ---- steps counted by opcode and by exception
 

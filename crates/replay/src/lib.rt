@@ -1,8 +1,5 @@
 // A file of test vectors replayed on the model: what each command does, and what is counted.
-mod bytes;
-mod expected;
 mod model;
-pub mod tally;
 
 use processor::Processor;
 use tally::Counts;
@@ -11,8 +8,8 @@ ghost use mathlib.Core.Path.{_≡_};
 ghost use Prim.Native.Nat.{_≤_};
 ghost use lib.Dec.{eqb};
 ghost use Rattle.machine.specs.State.{machine};
-ghost use Rattle.replay.specs.Tally.{caseBegun, judged};
-ghost use Rattle.replay.specs.Expected.{expected, clear, patchFits, patched};
+ghost use Rattle.tally.specs.Tally.{caseBegun, judged};
+ghost use Rattle.expected.specs.Expected.{expected, clear, patchFits, patched};
 ghost use Rattle.replay.specs.Replay.{clearKind, startKind, endKind, tallies, replay, commanded, replayed, finished};
 
 const CLEAR: u32 = 0;

@@ -1,7 +1,4 @@
 // The model's machine: started, stepped, and its steps counted.
-use crate::bytes;
-use crate::expected;
-use crate::tally;
 use processor::Processor;
 use record::Reading;
 use transfer;
@@ -11,7 +8,7 @@ ghost use Rattle.memory.specs.Map.{memory};
 ghost use Rattle.machine.specs.State.{machine};
 ghost use Rattle.machine.specs.Step.{stepOf};
 ghost use Rattle.record.specs.Calls.{readRefusal};
-ghost use Rattle.replay.specs.Expected.{expected, startedIn, stepAgrees};
+ghost use Rattle.expected.specs.Expected.{expected, startedIn, stepAgrees};
 ghost use Rattle.replay.specs.Replay.{opcodeAt, tallies, tallied};
 ghost use Rattle.machine.specs.Step.{stepEid};
 

@@ -1,8 +1,8 @@
 -- No mismatch is counted only where the end of the file was read.
 use mathlib.Core.Path.{_≡_, ap, sym, _∙_}
 use mathlib.Core.Bool.{true}
-use Rattle.replay.specs.declared.tally.Counts.{Counts}
-use Rattle.replay.specs.Tally.{judged}
+use Rattle.tally.specs.declared.Counts.{Counts}
+use Rattle.tally.specs.Tally.{judged}
 use Rattle.replay.specs.Replay.{finished}
 use Rattle.replay.proofs.Mismatches.{none-in-file}
 

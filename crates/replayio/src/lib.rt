@@ -3,7 +3,7 @@ mod report;
 
 use libc::STDOUT_FILENO;
 use processor::Processor;
-use replay::tally::Counts;
+use tally::Counts;
 ghost use mathlib.Core.Bool.{true};
 ghost use mathlib.Core.Path.{_≡_};
 ghost use Prim.Native.Nat.{_-_, _≤_};

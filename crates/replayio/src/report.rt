@@ -1,6 +1,6 @@
 // What a replay counted, in lines of text.
 use libc::STDOUT_FILENO;
-use replay::tally::Counts;
+use tally::Counts;
 ghost use mathlib.Core.Path.{_≡_};
 
 // EIDs 0 to 25; the first 16 are interrupt channels.

@@ -59,7 +59,7 @@ pub fn advance(
             }
             Action::Store(width, physical, v) => {
                 machine::store(ram, rom, belt, width, physical, v);
-                state = state.jump(computation::add(state.pc, 4));
+                state = state.jump(sums::add(state.pc, 4));
             }
             Action::System(opcode, z, v) => {
                 state = machine::system(state, opcode, z, v);

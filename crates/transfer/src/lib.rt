@@ -190,7 +190,7 @@ pub fn transfer<'a>(
     ensures { λ r. ⌜ r ≡ getD transfers kind (simple illegal) (surroundings psw (now (highs .entry)) (now (lows .entry)) (memory (now (ram .entry)) (now (rom .entry)) (now (belt .entry)))) (operands x y word next) ⌝ }
 {
     let n = word / 0x1_0000 % 32;
-    let address = computation::add(x, extension::sign_extend_16(word));
+    let address = sums::add(x, extension::sign_extend_16(word));
     match kind {
         0 => land(
             0,

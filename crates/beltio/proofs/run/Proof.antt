@@ -3,7 +3,7 @@ use mathlib.Core.Path.{refl, sym}
 use lib.Seq.{length-take-le}
 use borrow.Author.Needs.{needs}
 use Rattle.beltio.proofs.Lengths.{bytes-written}
-use Rattle.belttrace.proofs.Lines.{within}
+use Rattle.belttext.proofs.TextLaws.{within}
 use Rattle.beltio.proofs.run.Statement.{statement}
 use Rattle.beltio.proofs.run.Tie as tie
 

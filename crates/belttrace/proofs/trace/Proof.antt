@@ -3,7 +3,8 @@ use mathlib.Core.Path.{_∙_}
 use denote.Ref.{now}
 use borrow.Author.Needs.{needs}
 use Rattle.belttrace.specs.Trace.{beltText}
-use Rattle.belttrace.proofs.Lines.{no-room, room, text-length, started, four, room-kept}
+use Rattle.belttext.proofs.TextLaws.{no-room, room}
+use Rattle.belttrace.proofs.Lines.{text-length, started, four, room-kept}
 use Rattle.belttrace.proofs.trace.Statement.{statement}
 use Rattle.belttrace.proofs.trace.Tie as tie
 

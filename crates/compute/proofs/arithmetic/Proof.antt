@@ -9,7 +9,8 @@ use Rattle.compute.specs.Compute.{unlessZero, computations}
 use Rattle.instructions.specs.Operands.{operands, illegal}
 use Rattle.instructions.specs.Operands.{operands, intoR, intoY, illegal}
 use Rattle.instructions.proofs.Arms.{arm, beyond}
-use Rattle.computation.specs.Computation.{sum, difference, signedProduct, unsignedProduct, signedQuotient, unsignedQuotient, signedRemainder, unsignedRemainder}
+use Rattle.sums.specs.Sums.{sum, difference, signedProduct, unsignedProduct}
+use Rattle.quotients.specs.Quotients.{signedQuotient, unsignedQuotient, signedRemainder, unsignedRemainder}
 use Rattle.compute.proofs.arithmetic.Statement.{statement}
 use Rattle.compute.proofs.arithmetic.Tie as tie
 

@@ -2,7 +2,8 @@
 use mathlib.Core.Path.{ap, _∙_}
 use Prim.Native.Nat.{ℕ}
 use borrow.Author.Needs.{needs}
-use Rattle.computation.specs.Computation.{sum, shiftLeft}
+use Rattle.sums.specs.Sums.{sum}
+use Rattle.shifts.specs.Shifts.{shiftLeft}
 use Rattle.control.proofs.Targets.{target-by-shift}
 use Rattle.control.proofs.target_16.Statement.{statement}
 use Rattle.control.proofs.target_16.Tie as tie

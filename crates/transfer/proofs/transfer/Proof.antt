@@ -11,7 +11,7 @@ use Rattle.instructions.proofs.Arms.{arm}
 use Rattle.transfer.proofs.Arms.{transfer-illegal}
 use Rattle.transfer.proofs.Faults.{lands}
 use Rattle.memory.specs.Map.{memory}
-use Rattle.computation.specs.Computation.{sum}
+use Rattle.sums.specs.Sums.{sum}
 use Rattle.transfer.proofs.transfer.Statement.{statement}
 use Rattle.transfer.proofs.transfer.Tie as tie
 

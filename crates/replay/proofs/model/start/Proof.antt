@@ -1,5 +1,5 @@
 -- `replay::model::start` meets its contract, by the laws of ExpectedLaws.
-use Rattle.replay.proofs.ExpectedLaws.{started-is}
+use Rattle.expected.proofs.ExpectedLaws.{started-is}
 use borrow.Author.Needs.{needs}
 use Rattle.replay.proofs.model.start.Statement.{statement}
 use Rattle.replay.proofs.model.start.Tie as tie

@@ -1,0 +1,2 @@
+-- The definitions of `arrays`.
+pub mod Numbers

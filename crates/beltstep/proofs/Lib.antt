@@ -1,0 +1,2 @@
+-- The laws of `beltstep`.
+pub mod LineLaws

@@ -1,0 +1,2 @@
+-- The definitions of `beltstep`.
+pub mod Line

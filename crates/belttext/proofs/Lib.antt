@@ -1,0 +1,2 @@
+-- The laws of `belttext`.
+pub mod TextLaws

@@ -1,0 +1,18 @@
+-- `belttext::decimal_digit` meets its contract, by its definition.
+use borrow.Author.Needs.{needs}
+use Rattle.belttext.specs.Text.{decimalDigit}
+use Rattle.belttext.proofs.decimal_digit.Statement.{statement}
+use Rattle.belttext.proofs.decimal_digit.Tie as tie
+
+cast-result : tie.Need-cast-result
+cast-result c = search needs
+
+add-result : tie.Need-add-result
+add-result c = search needs
+
+returns : tie.Need-returns
+unfolding decimalDigit
+returns c = search needs
+
+pub decimal-digit-spec : {M : Type 1} → statement M
+decimal-digit-spec = tie.close (tie.spec cast-result add-result returns)

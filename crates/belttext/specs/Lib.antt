@@ -1,0 +1,2 @@
+-- The definitions of `belttext`.
+pub mod Text

@@ -1,0 +1,3 @@
+-- The laws of `bitwise`, in the order to read them.
+pub mod BitLaws
+pub mod Sizes

@@ -1,0 +1,17 @@
+-- `bitwise::xnor` meets its contract, by its definition.
+use native.Mathlib.Nat.{le-pred-of-lt}
+use lib.Bits.{xor-lt}
+use borrow.Author.Needs.{needs}
+use Rattle.bitwise.specs.Bitwise.{xnor}
+use Rattle.bitwise.proofs.xnor.Statement.{statement}
+use Rattle.bitwise.proofs.xnor.Tie as tie
+
+sub-result : tie.Need-sub-result
+sub-result c = le-pred-of-lt (xor-lt 32 (c .args .x) (c .args .y) (c .fits .x .fits) (c .fits .y .fits))
+
+returns : tie.Need-returns
+unfolding xnor
+returns c = search needs
+
+pub xnor-spec : {M : Type 1} → statement M
+xnor-spec = tie.close (tie.spec sub-result returns)

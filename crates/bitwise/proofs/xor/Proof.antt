@@ -1,0 +1,12 @@
+-- `bitwise::xor` meets its contract, by its definition.
+use borrow.Author.Needs.{needs}
+use Rattle.bitwise.specs.Bitwise.{xor}
+use Rattle.bitwise.proofs.xor.Statement.{statement}
+use Rattle.bitwise.proofs.xor.Tie as tie
+
+returns : tie.Need-returns
+unfolding xor
+returns c = search needs
+
+pub xor-spec : {M : Type 1} → statement M
+xor-spec = tie.close (tie.spec returns)

@@ -1,0 +1,2 @@
+-- The definitions of `bitwise`.
+pub mod Bitwise

@@ -1,0 +1,2 @@
+-- The laws of `bytes`.
+pub mod SliceLaws

@@ -1,0 +1,2 @@
+-- The definitions of `bytes`.
+pub mod Bytes

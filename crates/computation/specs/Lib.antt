@@ -1,2 +1,0 @@
--- The definitions of `computation`.
-pub mod Computation

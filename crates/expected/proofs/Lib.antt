@@ -1,0 +1,2 @@
+-- The laws of `expected`.
+pub mod ExpectedLaws

@@ -1,0 +1,80 @@
+-- The expected machine, and whether a step agrees with it.
+use mathlib.Core.Bool.{Bool, false, cond}
+use mathlib.Core.List.{List}
+use Prim.Native.Nat.{ℕ}
+use lib.Dec.{eqb}
+use lib.ListN.{length, replicate}
+use Rattle.words.specs.Logic.{both}
+use Rattle.memory.specs.Map.{Memory, memory}
+use Rattle.processor.specs.declared.Processor.{Processor}
+use Rattle.processor.specs.State.{atReset, fit}
+use Rattle.machine.specs.State.{Machine, machine}
+use Rattle.machine.specs.Step.{stepOf, stepEid}
+use Rattle.recordlayout.specs.Record.{recordOf}
+use Rattle.record.specs.Calls.{processorRead, bufferAfter}
+use Rattle.slices.specs.Same.{same}
+use Rattle.bytes.specs.Bytes.{copied, fits, patch}
+
+-- the bytes of the record, and memory
+pub record Expected : Type 0 where
+  pub bytes : List ℕ
+  pub memory : Memory
+
+abbrev pub expected : List ℕ → List ℕ → List ℕ → List ℕ → Expected
+expected bytes ram rom belt = record { bytes = bytes; memory = memory ram rom belt }
+
+-- ---- agreement
+
+-- a processor has a record, and it is this one
+unfoldable pub recordAgrees : List ℕ → Processor → Bool
+recordAgrees bytes p = both (fit p) (same (recordOf p) bytes)
+
+unfoldable pub memoryAgrees : Memory → Memory → Bool
+memoryAgrees x m =
+    both (same (m .ram) (x .ram)) (both (same (m .rom) (x .rom)) (same (m .belt) (x .belt)))
+
+-- the expected EID, the record and all memory, against an EID and a machine
+unfoldable pub agrees : Expected → ℕ → Machine → ℕ → Bool
+agrees x wanted m eid =
+    both (eqb eid wanted) (both (recordAgrees (x .bytes) (m .processor)) (memoryAgrees (x .memory) (m .memory)))
+
+-- against a step of a machine
+unfoldable pub stepAgrees : Expected → ℕ → Machine → ℕ → Bool
+stepAgrees x wanted m lines = agrees x wanted (stepOf m lines) (stepEid m lines)
+
+-- ---- commands
+
+-- the reset machine, and memory of zeros
+unfoldable pub clear : Expected → Expected
+clear x =
+    expected (bufferAfter atReset (x .bytes)) (replicate (length (x .memory .ram)) 0) (replicate (length (x .memory .rom)) 0)
+    (replicate (length (x .memory .belt)) 0)
+
+-- a patch: 1 a word and 2 a byte of the record, 3 a word of RAM, 4 of ROM, 5 of the belt
+unfoldable pub patchFits : Expected → ℕ → ℕ → Bool
+patchFits x kind at =
+    cond (eqb kind 1) (fits 4 (x .bytes) at)
+    (cond (eqb kind 2) (fits 1 (x .bytes) at)
+    (cond (eqb kind 3) (fits 4 (x .memory .ram) at)
+    (cond (eqb kind 4) (fits 4 (x .memory .rom) at)
+    (cond (eqb kind 5) (fits 4 (x .memory .belt) at)
+    false))))
+
+abbrev pub bytesPatched : Expected → ℕ → ℕ → ℕ → Expected
+bytesPatched x w at v =
+    expected (patch w (x .bytes) at v) (x .memory .ram) (x .memory .rom) (x .memory .belt)
+
+unfoldable pub patched : Expected → ℕ → ℕ → ℕ → Expected
+patched x kind at v =
+    cond (eqb kind 1) (bytesPatched x 4 at v)
+    (cond (eqb kind 2) (bytesPatched x 1 at v)
+    (cond (eqb kind 3) (expected (x .bytes) (patch 4 (x .memory .ram) at v) (x .memory .rom) (x .memory .belt))
+    (cond (eqb kind 4) (expected (x .bytes) (x .memory .ram) (patch 4 (x .memory .rom) at v) (x .memory .belt))
+    (cond (eqb kind 5) (expected (x .bytes) (x .memory .ram) (x .memory .rom) (patch 4 (x .memory .belt) at v))
+    x))))
+
+-- the model's machine made the expected one, in memory of the given lengths
+unfoldable pub startedIn : Memory → Expected → Machine
+startedIn m x =
+    machine (processorRead (x .bytes)) (copied (m .ram) (x .memory .ram)) (copied (m .rom) (x .memory .rom))
+    (copied (m .belt) (x .memory .belt))

@@ -1,0 +1,2 @@
+-- The definitions of `expected`.
+pub mod Expected

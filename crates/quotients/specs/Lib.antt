@@ -1,0 +1,2 @@
+-- The definitions of `quotients`.
+pub mod Quotients

@@ -1,0 +1,2 @@
+-- The definitions of `shifts`.
+pub mod Shifts

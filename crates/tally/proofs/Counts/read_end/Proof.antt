@@ -1,0 +1,12 @@
+-- `tally::Counts::read_end` meets its contract.
+use Rattle.tally.specs.Tally.{endRead}
+use mathlib.Core.Path.{refl}
+use Rattle.tally.proofs.Counts.read_end.Statement.{statement}
+use Rattle.tally.proofs.Counts.read_end.Tie as tie
+
+returns : tie.Need-returns
+unfolding endRead
+returns c = refl
+
+pub read-end-spec : {M : Type 1} → statement M
+read-end-spec = tie.close (tie.spec returns)

@@ -1,0 +1,2 @@
+-- The laws of `tally`.
+pub mod TallyLaws

@@ -1,0 +1,2 @@
+-- The definitions of `tally`.
+pub mod Tally
