@@ -19,8 +19,8 @@ use Rattle.machine.specs.State.{Machine, Words32, Representable}
 use Rattle.refusal.specs.Refusal.{check, memoryChecked, stepsChecked, runRefusal}
 use Rattle.runs.specs.Run.{Outcome, runFrom, refused, runOf}
 use Rattle.runs.proofs.RunRepresentable.{run-representable}
-use Rattle.eco32.specs.Records.{recordChecked}
-use Rattle.eco32.specs.Runs.{machineIn, recorded, called, callRefusal, callOf}
+use Rattle.recordcalls.specs.Records.{recordChecked}
+use Rattle.runcalls.specs.Runs.{machineIn, recorded, called, callRefusal, callOf}
 use Rattle.isolation.specs.Trace.{Entry, ByValue, Exported, Call, traceFrom, handedBack, outcomeBy, traceBy, callOutcome, callTrace}
 
 -- ---- the record of a machine holds the machine

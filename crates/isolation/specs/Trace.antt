@@ -10,7 +10,7 @@ use Rattle.machine.specs.Step.{stepOf, stepEid}
 use Rattle.refusal.specs.Refusal.{runRefusal}
 use Rattle.runs.specs.Run.{Answer, Outcome, ends, runOf}
 use Rattle.recordlayout.specs.Record.{recordOf}
-use Rattle.eco32.specs.Runs.{Called, machineIn, callRefusal, callOf}
+use Rattle.runcalls.specs.Runs.{Called, machineIn, callRefusal, callOf}
 
 -- PSW bit 26 is 1
 abbrev pub inUserMode : Machine → Bool

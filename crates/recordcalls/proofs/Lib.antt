@@ -1,0 +1,2 @@
+-- The laws of `recordcalls`.
+pub mod RecordLaws

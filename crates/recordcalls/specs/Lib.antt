@@ -1,0 +1,2 @@
+-- The definitions of `recordcalls`.
+pub mod Records

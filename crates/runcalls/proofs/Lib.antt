@@ -1,0 +1,2 @@
+-- The laws of `runcalls`.
+pub mod CallLaws

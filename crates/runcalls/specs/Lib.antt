@@ -1,0 +1,2 @@
+-- The definitions of `runcalls`.
+pub mod Runs

@@ -1,0 +1,64 @@
+// A run of either kind, with the machine as its record.
+use processor::Processor;
+ghost use mathlib.Core.Path.{_≡_};
+ghost use Rattle.memory.specs.Map.{memory};
+ghost use Rattle.runcalls.specs.Runs.{called, callOf};
+
+// struct eco32_answer
+#[repr(C)]
+pub struct Answer {
+    pub refusal: u32,
+    pub steps: u32,
+    pub eid: u32,
+}
+
+fn refused(number: u32) -> Answer
+    ensures { λ r. ⌜ (r .refusal ≡ number) × (r .steps ≡ 0) × (r .eid ≡ 32) ⌝ }
+{
+    Answer {
+        refusal: number,
+        steps: 0,
+        eid: Processor::NO_EXCEPTION,
+    }
+}
+
+// A run of either kind: causes 1, 2 and 3, then 4, 5 and 6 of the record, then 7.
+pub fn call(
+    machine: &mut [u8],
+    ram: &mut [u8],
+    rom: &[u8],
+    belt: &mut [u8],
+    wanted: u64,
+    lines: u16,
+    kind: bool,
+) -> Answer
+    ensures { λ r. ⌜ called (now (machine .exit)) (memory (now (ram .exit)) (now (rom .entry)) (now (belt .exit))) (r .refusal) (r .steps) (r .eid) ≡ callOf kind (now (machine .entry)) (memory (now (ram .entry)) (now (rom .entry)) (now (belt .entry))) wanted lines ⌝ }
+{
+    let lengths = refusal::of_lengths(ram.len(), rom.len(), belt.len());
+    if lengths != 0 {
+        return refused(lengths);
+    }
+    let reading = record::read(&machine[..]);
+    if reading.refusal != 0 {
+        return refused(reading.refusal);
+    }
+    let steps = refusal::of_steps(wanted);
+    if steps != 0 {
+        return refused(steps);
+    }
+    let ran = runs::advance(
+        reading.processor,
+        ram,
+        rom,
+        belt,
+        wanted as u32,
+        lines as u32,
+        kind,
+    );
+    recordlayout::put(ran.processor, machine);
+    Answer {
+        refusal: ran.refusal,
+        steps: ran.steps,
+        eid: ran.eid,
+    }
+}

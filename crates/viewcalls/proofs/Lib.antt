@@ -1,0 +1,2 @@
+-- The laws of `viewcalls`.
+pub mod ViewLaws

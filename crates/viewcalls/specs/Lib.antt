@@ -1,0 +1,2 @@
+-- The definitions of `viewcalls`.
+pub mod Views
