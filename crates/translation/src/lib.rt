@@ -1,7 +1,6 @@
 // The translation of a virtual address to a physical one, or its fault (document 01, "One step"; manual, 2.9).
 use processor::Processor;
 use processor::Words;
-use processor::tlb;
 ghost use mathlib.Core.Path.{_≡_};
 ghost use mathlib.Core.Bool.{not};
 ghost use Prim.Native.Nat.{_%_};
@@ -68,7 +67,7 @@ fn through(low: u32, store: bool, address: u32) -> Translation
 fn mapped<'a>(highs: &'a Words, lows: &'a Words, store: bool, address: u32) -> Translation
     ensures { λ r. ⌜ r ≡ mapped (now (highs .entry)) (now (lows .entry)) store address ⌝ }
 {
-    let i = tlb::find(highs, address / 0x1000);
+    let i = lookup::find(highs, address / 0x1000);
     if i < 32 {
         return through(lows[i], store, address);
     }
