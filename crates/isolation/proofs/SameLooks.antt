@@ -13,7 +13,7 @@ use Rattle.memory.proofs.Frames.{one-frame}
 use Rattle.memory.proofs.OwnBytes.{Apart, SameLengths, load-same, same-place}
 use Rattle.status.specs.Psw.{userMode}
 use Rattle.interrupt.specs.Interrupt.{channel}
-use Rattle.processor.specs.Tlb.{pageOf, lookup}
+use Rattle.lookup.specs.Lookup.{pageOf, lookup}
 use Rattle.translation.specs.Translation.{frameOf, translated}
 use Rattle.processor.specs.declared.Processor.{Processor}
 use Rattle.translation.specs.declared.Translation.{Translation}

@@ -11,9 +11,10 @@ use Rattle.memory.proofs.OwnBytes.{Apart}
 use Rattle.memory.proofs.StoreLaws.{store-lengths, store-rom, store-keeps}
 use Rattle.status.specs.Psw.{userMode, pushed}
 use Rattle.interrupt.specs.Interrupt.{channel}
-use Rattle.processor.specs.Tlb.{lookup}
+use Rattle.lookup.specs.Lookup.{lookup}
 use Rattle.translation.specs.Translation.{valid, writable, frameOf}
-use Rattle.processor.specs.Exception.{entered, entryHighAfter, badAddressAfter}
+use Rattle.exceptions.specs.Entry.{entryHighAfter, badAddressAfter}
+use Rattle.processor.specs.Exception.{entered}
 use Rattle.processor.specs.Register.{written, jumped}
 use Rattle.processor.specs.declared.Processor.{Processor}
 use Rattle.status.proofs.PswLaws.{pushed-kernel}

@@ -5,7 +5,7 @@ use Prim.Native.Nat.{ℕ, _/_, _<_}
 use lib.ListN.{length, getD}
 use Rattle.memory.specs.Map.{Memory, byteAt}
 use Rattle.processor.specs.declared.Processor.{Processor}
-use Rattle.processor.specs.Tlb.{lookup}
+use Rattle.lookup.specs.Lookup.{lookup}
 use Rattle.translation.specs.Translation.{frameOf, valid, writable}
 
 -- the frame of a physical address: 4,096 addresses from a multiple of 4,096

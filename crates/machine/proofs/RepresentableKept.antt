@@ -14,9 +14,12 @@ use Rattle.processor.specs.declared.Processor.{Processor}
 use Rattle.processor.specs.State.{atReset}
 use Rattle.processor.specs.Exception.{entered, returned}
 use Rattle.processor.specs.Register.{put, written, jumped, special, specialWritten}
-use Rattle.processor.specs.Tlb.{pageOf, lookup, entryWritten, indexedWritten, nextReplacement, randomWritten, tlbRegisters, entryRead, searched}
+use Rattle.lookup.specs.Lookup.{pageOf, lookup, nextReplacement}
+use Rattle.processor.specs.Tlb.{entryWritten, indexedWritten, randomWritten, tlbRegisters, entryRead, searched}
 use Rattle.status.proofs.PswLaws.{pushed-lt, popped-lt}
-use Rattle.processor.proofs.Sizes.{service-lt, kept-psw-lt, kept-index-lt, kept-high-lt, kept-low-lt, replacement-lt, found-lt}
+use Rattle.kept.proofs.KeptLaws.{kept-psw-lt, kept-index-lt, kept-high-lt, kept-low-lt}
+use Rattle.exceptions.proofs.EntryLaws.{service-lt}
+use Rattle.lookup.proofs.Sizes.{replacement-lt, found-lt}
 use Rattle.machine.specs.State.{Machine, machine, Words32, Bytes, Representable}
 
 -- ---- numbers and arrays

@@ -13,11 +13,14 @@ use Rattle.endian.specs.BigEndian.{readAt, writeAt}
 use Rattle.memory.specs.Map.{memory, within, locate, placeOf}
 use Rattle.memory.specs.Access.{loadOf, storeAnswer, memoryAfter}
 use Rattle.processor.specs.declared.Processor.{Processor}
-use Rattle.processor.specs.State.{atReset, keptPsw, keptHigh, keptLow}
+use Rattle.kept.specs.Kept.{keptPsw, keptHigh, keptLow}
+use Rattle.processor.specs.State.{atReset}
 use Rattle.status.specs.Psw.{vector, userCurrent, userPrevious, userOld, interruptCurrent, interruptPrevious, interruptOld, identifier, enabled, pswOf, pushed, popped, userMode}
-use Rattle.processor.specs.Exception.{serviceBase, userMiss, serviceAddress, entered, returned}
+use Rattle.exceptions.specs.Entry.{serviceBase, userMiss, serviceAddress}
+use Rattle.processor.specs.Exception.{entered, returned}
 use Rattle.processor.specs.Register.{put, written, jumped, special, specialWritten}
-use Rattle.processor.specs.Tlb.{findFrom, lookup, entryWritten, indexedWritten}
+use Rattle.lookup.specs.Lookup.{findFrom, lookup}
+use Rattle.processor.specs.Tlb.{entryWritten, indexedWritten}
 use Rattle.translation.specs.Translation.{valid, writable, through, mapped, forbidden, translated}
 use Rattle.interrupt.specs.Interrupt.{lowest, channel}
 use Rattle.compute.specs.Compute.{unlessZero, computations}

@@ -1,53 +1,26 @@
 -- Every operation keeps a fit state fit, and the state at reset is fit.
-use mathlib.Core.Path.{_≡_, refl, ap, sym, _∙_}
+use mathlib.Core.Path.{_≡_, refl, sym, _∙_}
 use mathlib.Core.Bool.{Bool, true, false, cond}
-use mathlib.Core.List.{List}
-use Prim.Native.Nat.{ℕ, zero, suc, _+_, _*_, _/_, _%_, _^_, _≤_, _<_}
+use Prim.Native.Nat.{ℕ, _%_, _≤_}
 use native.Mathlib.Omega.{arith}
-use lib.Dec.{eqb, leb, ltb}
+use lib.Dec.{eqb, leb}
 use lib.ListN.{getD, set}
 use lib.Seq.{getD-set-other}
-use borrow.Author.Tests.{eqb-true, eqb-false, lt-ltb, le-ltb}
+use borrow.Author.Tests.{eqb-false, lt-ltb, le-ltb}
 use Rattle.words.proofs.Cases.{below-or-not}
 use Rattle.words.specs.Logic.{both}
-use Rattle.processor.specs.State.{atReset, fit, onlyFrom, keptPsw, keptIndex, keptHigh, keptLow}
 use Rattle.status.specs.Psw.{pushed, popped}
-use Rattle.processor.specs.Exception.{entered, returned, entryHighAfter}
-use Rattle.processor.specs.Register.{put, written, jumped, after, specialWritten}
-use Rattle.processor.specs.Tlb.{lookup, pageOf, entryWritten, indexedWritten, nextReplacement, randomWritten, entryRead, foundIndex, searched}
-use Rattle.processor.specs.declared.Processor.{Processor}
 use Rattle.status.proofs.PswLaws.{pushed-lt, popped-lt}
-use Rattle.processor.proofs.FitLaws.{Fit, Only, fit-means, set-only}
-
--- ---- kept bits
-
-psw-kept : (n : ℕ) → n < 2 ^ 28 → keptPsw n ≡ n
-unfolding keptPsw
-psw-kept n h = omega arith
-
-psw-again : (v : ℕ) → keptPsw (keptPsw v) ≡ keptPsw v
-unfolding keptPsw
-psw-again v = omega arith
-
-index-again : (v : ℕ) → keptIndex (keptIndex v) ≡ keptIndex v
-unfolding keptIndex
-index-again v = omega arith
-
-index-kept : (i : ℕ) → i < 32 → keptIndex i ≡ i
-unfolding keptIndex
-index-kept i h = omega arith
-
-index-none : keptIndex 0x80000000 ≡ 0x80000000
-unfolding keptIndex
-index-none = refl
-
-high-again : (v : ℕ) → keptHigh (keptHigh v) ≡ keptHigh v
-unfolding keptHigh
-high-again v = omega arith
-
-low-again : (v : ℕ) → keptLow (keptLow v) ≡ keptLow v
-unfolding keptLow
-low-again v = omega arith
+use Rattle.kept.specs.Kept.{onlyFrom, keptPsw, keptIndex, keptHigh, keptLow}
+use Rattle.kept.proofs.KeptLaws.{psw-kept, psw-again, index-again, index-kept, index-none, high-again, low-again}
+use Rattle.kept.proofs.OnlyLaws.{set-only}
+use Rattle.lookup.specs.Lookup.{lookup, pageOf, nextReplacement, foundIndex}
+use Rattle.processor.specs.State.{atReset, fit}
+use Rattle.processor.specs.Exception.{entered, returned}
+use Rattle.processor.specs.Register.{put, written, jumped, specialWritten}
+use Rattle.processor.specs.Tlb.{entryWritten, indexedWritten, randomWritten, entryRead, searched}
+use Rattle.processor.specs.declared.Processor.{Processor}
+use Rattle.processor.proofs.FitLaws.{Fit}
 
 -- one of two kept values is kept
 either : (kept : ℕ → ℕ) (t : Bool) (x y : ℕ) → kept x ≡ x → kept y ≡ y → kept (cond t x y) ≡ cond t x y

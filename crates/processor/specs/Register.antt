@@ -4,7 +4,7 @@ use mathlib.Core.List.{List}
 use Prim.Native.Nat.{ℕ, _%_}
 use lib.Dec.{eqb}
 use lib.ListN.{getD, set}
-use Rattle.processor.specs.State.{keptPsw, keptIndex, keptHigh, keptLow}
+use Rattle.kept.specs.Kept.{keptPsw, keptIndex, keptHigh, keptLow, after}
 use Rattle.processor.specs.declared.Processor.{Processor}
 
 -- the register file with a register written, by a number modulo 32; a write to register 0 has no effect
@@ -53,10 +53,6 @@ choose z a b c d e other =
 -- a number above 4 reads 0
 unfoldable pub special : Processor → ℕ → ℕ
 special p z = choose z (p .psw) (p .index) (p .entryhigh) (p .entrylow) (p .badaddress) 0
-
--- the value of a special register after a write to number z
-abbrev pub after : ℕ → ℕ → ℕ → ℕ → ℕ
-after z own v former = cond (eqb z own) v former
 
 -- a number above 4 stores nothing; only kept bits are stored
 unfoldable pub specialWritten : Processor → ℕ → ℕ → Processor

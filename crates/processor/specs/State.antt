@@ -1,10 +1,9 @@
--- The state at reset, the bits that are kept, and which states are fit (document 01, "Closed by us" and cause 6 of "Refused calls").
-use mathlib.Core.Bool.{Bool, true}
-use mathlib.Core.List.{List}
-use Prim.Native.Nat.{ℕ, zero, suc, _+_, _*_, _/_, _%_, _^_}
+-- The state at reset, and which states are fit (document 01, "Closed by us" and cause 6 of "Refused calls").
+use mathlib.Core.Bool.{Bool}
 use lib.Dec.{leb, eqb}
 use lib.ListN.{getD, replicate}
 use Rattle.words.specs.Logic.{both}
+use Rattle.kept.specs.Kept.{keptPsw, keptIndex, keptHigh, keptLow, only, onlyFrom}
 use Rattle.processor.specs.declared.Processor.{Processor}
 
 unfoldable pub atReset : Processor
@@ -21,35 +20,6 @@ atReset =
       tlblow = replicate 32 0;
       replacement = 4;
     }
-
--- ---- kept bits, of words below 2 ^ 32
-
--- 27..0
-unfoldable pub keptPsw : ℕ → ℕ
-keptPsw v = v % 2 ^ 28
-
--- 31 and 4..0
-unfoldable pub keptIndex : ℕ → ℕ
-keptIndex v = v / 2 ^ 31 * 2 ^ 31 + v % 32
-
--- 31..12: of Entry High and of TLB high words
-unfoldable pub keptHigh : ℕ → ℕ
-keptHigh v = v / 4096 * 4096
-
--- 31..12, 1 and 0: of Entry Low and of TLB low words
-unfoldable pub keptLow : ℕ → ℕ
-keptLow v = v / 4096 * 4096 + v % 4
-
--- ---- fitness
-
--- no other bit is set
-abbrev pub only : (ℕ → ℕ) → ℕ → Bool
-only kept v = eqb (kept v) v
-
--- of the n words of a list from i on
-unfoldable pub onlyFrom : (ℕ → ℕ) → ℕ → List ℕ → ℕ → Bool
-onlyFrom kept zero l i = true
-onlyFrom kept (suc n) l i = both (only kept (getD l i 0)) (onlyFrom kept n l (suc i))
 
 -- register 0 is 0, the replacement index is in 4..31, and no bit is set that is never kept
 unfoldable pub fit : Processor → Bool

@@ -5,9 +5,8 @@ ghost use Rattle.processor.specs.State.{atReset};
 
 mod exception;
 mod fitness;
-mod kept;
 mod register;
-pub mod tlb;
+mod tlb;
 
 // A register file, or the high or low words of the TLB.
 pub type Words = [u32; 32];
@@ -28,36 +27,36 @@ pub struct Processor {
 
 impl Processor {
     // Exception identifiers (manual, 2.7.4). 0 to 15 are the interrupt channels.
-    pub const BUS_TIMEOUT: u32 = 16;
+    pub const BUS_TIMEOUT: u32 = exceptions::BUS_TIMEOUT;
 
-    pub const ILLEGAL_INSTRUCTION: u32 = 17;
+    pub const ILLEGAL_INSTRUCTION: u32 = exceptions::ILLEGAL_INSTRUCTION;
 
-    pub const PRIVILEGED_INSTRUCTION: u32 = 18;
+    pub const PRIVILEGED_INSTRUCTION: u32 = exceptions::PRIVILEGED_INSTRUCTION;
 
-    pub const DIVISION_BY_ZERO: u32 = 19;
+    pub const DIVISION_BY_ZERO: u32 = exceptions::DIVISION_BY_ZERO;
 
-    pub const TRAP: u32 = 20;
+    pub const TRAP: u32 = exceptions::TRAP;
 
-    pub const TLB_MISS: u32 = 21;
+    pub const TLB_MISS: u32 = exceptions::TLB_MISS;
 
-    pub const TLB_WRITE: u32 = 22;
+    pub const TLB_WRITE: u32 = exceptions::TLB_WRITE;
 
-    pub const TLB_INVALID: u32 = 23;
+    pub const TLB_INVALID: u32 = exceptions::TLB_INVALID;
 
-    pub const ILLEGAL_ADDRESS: u32 = 24;
+    pub const ILLEGAL_ADDRESS: u32 = exceptions::ILLEGAL_ADDRESS;
 
-    pub const PRIVILEGED_ADDRESS: u32 = 25;
+    pub const PRIVILEGED_ADDRESS: u32 = exceptions::PRIVILEGED_ADDRESS;
 
     pub const NO_EXCEPTION: u32 = 32;
 
     // Service addresses (manual, 2.8.2): the base by V, and the offsets from it.
-    pub const ROM_SERVICE: u32 = 0xE000_0000;
+    pub const ROM_SERVICE: u32 = exceptions::ROM_SERVICE;
 
-    pub const RAM_SERVICE: u32 = 0xC000_0000;
+    pub const RAM_SERVICE: u32 = exceptions::RAM_SERVICE;
 
-    pub const GENERAL_SERVICE: u32 = 4;
+    pub const GENERAL_SERVICE: u32 = exceptions::GENERAL_SERVICE;
 
-    pub const USER_MISS_SERVICE: u32 = 8;
+    pub const USER_MISS_SERVICE: u32 = exceptions::USER_MISS_SERVICE;
 
     pub fn reset() -> Self
         ensures { λ r. ⌜ r ≡ atReset ⌝ }

@@ -1,18 +1,7 @@
 // General-purpose and special registers (manual, 2.4 and 2.6).
 use crate::Processor;
-use crate::kept;
 ghost use mathlib.Core.Path.{_≡_};
-ghost use Rattle.processor.specs.Register.{written, jumped, special, after, specialWritten};
-
-// The value of a special register after a write to some number.
-fn after(number: u32, own: u32, value: u32, former: u32) -> u32
-    ensures { λ r. ⌜ r ≡ after number own value former ⌝ }
-{
-    if number == own {
-        return value;
-    }
-    former
-}
+ghost use Rattle.processor.specs.Register.{written, jumped, special, specialWritten};
 
 impl Processor {
     // A register written, and the PC after the instruction. Register 0 never changes.
@@ -85,11 +74,11 @@ impl Processor {
         Self {
             registers: registers,
             pc: self.pc,
-            psw: after(number, 0, kept::kept_psw(value), self.psw),
-            index: after(number, 1, kept::kept_index(value), self.index),
-            entryhigh: after(number, 2, kept::kept_high(value), self.entryhigh),
-            entrylow: after(number, 3, kept::kept_low(value), self.entrylow),
-            badaddress: after(number, 4, value, self.badaddress),
+            psw: kept::after(number, 0, kept::kept_psw(value), self.psw),
+            index: kept::after(number, 1, kept::kept_index(value), self.index),
+            entryhigh: kept::after(number, 2, kept::kept_high(value), self.entryhigh),
+            entrylow: kept::after(number, 3, kept::kept_low(value), self.entrylow),
+            badaddress: kept::after(number, 4, value, self.badaddress),
             tlbhigh: tlbhigh,
             tlblow: tlblow,
             replacement: self.replacement,

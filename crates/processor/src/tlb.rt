@@ -1,40 +1,7 @@
 // The TLB and its registers (manual, 2.9; 3.6.5 to 3.6.8).
 use crate::Processor;
-use crate::Words;
 ghost use mathlib.Core.Path.{_≡_};
-ghost use Rattle.processor.specs.Tlb.{lookup, entryWritten, indexedWritten, nextReplacement, randomWritten, tlbRegisters, entryRead, foundIndex, searched};
-
-// The lowest index of a page's entry, or 32.
-pub fn find(highs: &Words, page: u32) -> usize
-    ensures { λ r. ⌜ r ≡ lookup (now (highs .entry)) page ⌝ }
-{
-    let mut i: usize = 0;
-    while i < 32 {
-        if highs[i] / 0x1000 == page {
-            return i;
-        }
-        i += 1;
-    }
-    i
-}
-
-fn next_replacement(replacement: u32) -> u32
-    ensures { λ r. ⌜ r ≡ nextReplacement replacement ⌝ }
-{
-    if replacement < 31 {
-        return replacement + 1;
-    }
-    4
-}
-
-fn found_index(i: usize) -> u32
-    ensures { λ r. ⌜ r ≡ foundIndex i ⌝ }
-{
-    if i < 32 {
-        return i as u32;
-    }
-    0x8000_0000
-}
+ghost use Rattle.processor.specs.Tlb.{entryWritten, indexedWritten, randomWritten, tlbRegisters, entryRead, searched};
 
 impl Processor {
     fn write_entry(self, i: usize, replacement: u32) -> Self
@@ -73,7 +40,7 @@ impl Processor {
     {
         self.write_entry(
             self.replacement as usize,
-            next_replacement(self.replacement),
+            lookup::next_replacement(self.replacement),
         )
     }
 
@@ -112,7 +79,7 @@ impl Processor {
         ensures { λ r. ⌜ r ≡ searched self ⌝ }
     {
         let tlbhigh = self.tlbhigh;
-        let i = find(&tlbhigh, self.entryhigh / 0x1000);
-        self.with_tlb_registers(found_index(i), self.entryhigh, self.entrylow)
+        let i = lookup::find(&tlbhigh, self.entryhigh / 0x1000);
+        self.with_tlb_registers(lookup::found_index(i), self.entryhigh, self.entrylow)
     }
 }

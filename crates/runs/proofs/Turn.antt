@@ -13,7 +13,7 @@ use Rattle.instructions.specs.declared.Action.the-variants.{Exception}
 use Rattle.processor.specs.declared.Processor.{Processor}
 use Rattle.processor.specs.Exception.{entered}
 use Rattle.processor.specs.Register.{put, written, jumped}
-use Rattle.processor.specs.Tlb.{lookup}
+use Rattle.lookup.specs.Lookup.{lookup}
 use Rattle.machine.specs.State.{Machine}
 use Rattle.machine.specs.Step.{lookFrom, look, done, eidOf}
 use Rattle.machine.proofs.Looks.{step-done, step-eid}

@@ -2,7 +2,7 @@
 use mathlib.Core.Path.{_≡_}
 use mathlib.Core.List.{List}
 use Prim.Native.Nat.{ℕ, _<_}
-use Rattle.processor.specs.Tlb.{pageOf, lookup}
+use Rattle.lookup.specs.Lookup.{pageOf, lookup}
 
 -- the one of the address's page; a direct-mapped address needs none
 abbrev pub Serves : List ℕ → ℕ → ℕ → Type 0

@@ -6,7 +6,7 @@ use lib.Dec.{leb, ltb, eqb}
 use lib.ListN.{getD}
 use Rattle.words.specs.Logic.{both}
 use Rattle.status.specs.Psw.{userMode}
-use Rattle.processor.specs.Tlb.{pageOf, lookup}
+use Rattle.lookup.specs.Lookup.{pageOf, lookup}
 use Rattle.translation.specs.declared.Width.{Width}
 use Rattle.translation.specs.declared.Width.the-variants.{Byte, Half, Word}
 use Rattle.translation.specs.declared.Translation.{Translation}

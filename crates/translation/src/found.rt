@@ -1,9 +1,8 @@
 // The entry that was looked up last: in a run the next fetch mostly needs the same.
 use processor::Words;
-use processor::tlb;
 ghost use mathlib.Core.Path.{_≡_};
 ghost use lib.ListN.{getD};
-ghost use Rattle.processor.specs.Tlb.{pageOf, lookup};
+ghost use Rattle.lookup.specs.Lookup.{pageOf, lookup};
 ghost use Rattle.translation.specs.Found.{Serves};
 
 pub struct Found {
@@ -36,6 +35,6 @@ pub fn follow(highs: &Words, last: Found, address: u32) -> Found
     }
     Found {
         page: page,
-        index: tlb::find(highs, page),
+        index: lookup::find(highs, page),
     }
 }

@@ -1,13 +1,12 @@
 // The translation of a virtual address to a physical one, or its fault (document 01, "One step"; manual, 2.9).
 use processor::Processor;
 use processor::Words;
-use processor::tlb;
 ghost use mathlib.Core.Path.{_≡_};
 ghost use mathlib.Core.Bool.{not, cond};
 ghost use Prim.Native.Nat.{_%_};
 ghost use lib.Dec.{leb, ltb, eqb};
 ghost use lib.ListN.{getD};
-ghost use Rattle.processor.specs.Tlb.{pageOf, lookup};
+ghost use Rattle.lookup.specs.Lookup.{pageOf, lookup};
 ghost use Rattle.status.specs.Psw.{userMode};
 ghost use Rattle.translation.specs.Translation.{bytesOf, through, forbidden, translated, translationEid};
 ghost use Rattle.translation.specs.Found.{Serves};
@@ -88,7 +87,7 @@ pub fn index_of(highs: &Words, address: u32) -> usize
     if 0xC000_0000 <= address {
         return 32;
     }
-    tlb::find(highs, address / 0x1000)
+    lookup::find(highs, address / 0x1000)
 }
 
 // With the index of the address's page at hand: `highs` is in the contract alone.

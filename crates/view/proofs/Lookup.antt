@@ -10,7 +10,7 @@ use lib.ListN.{getD}
 use borrow.Author.Tests.{eq-eqb, leb-true}
 use Rattle.words.proofs.Cases.{same-leb}
 use Rattle.status.specs.Psw.{userMode, userCurrent}
-use Rattle.processor.specs.Tlb.{lookup}
+use Rattle.lookup.specs.Lookup.{lookup}
 use Rattle.translation.specs.Translation.{frameOf, valid, through, mapped, forbidden, translated}
 use Rattle.processor.specs.declared.Processor.{Processor}
 use Rattle.translation.specs.declared.Translation.{Translation}

@@ -7,7 +7,7 @@ use lib.ListN.{length}
 use borrow.Author.Needs.{needs}
 use Rattle.processor.specs.declared.Processor.{Processor}
 use Rattle.processor.specs.Register.{jumped}
-use Rattle.processor.specs.Tlb.{lookup}
+use Rattle.lookup.specs.Lookup.{lookup}
 use Rattle.machine.specs.State.{machine}
 use Rattle.machine.proofs.Looks.{joined}
 use Rattle.runs.specs.Run.{runFrom}

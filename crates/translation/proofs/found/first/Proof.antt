@@ -5,7 +5,7 @@ use Prim.Native.Nat.{ℕ}
 use lib.ListN.{getD}
 use denote.Ref.{now}
 use borrow.Author.Tests.{eq-eqb}
-use Rattle.processor.specs.Tlb.{pageOf, findFrom, lookup}
+use Rattle.lookup.specs.Lookup.{pageOf, findFrom, lookup}
 use borrow.Author.Needs.{needs}
 use Rattle.translation.proofs.found.first.Statement.{statement}
 use Rattle.translation.proofs.found.first.Tie as tie

@@ -1,7 +1,7 @@
 -- `translation::found::follow` meets its contract.
 use mathlib.Core.Path.{ap, sym, _∙_}
 use denote.Ref.{now}
-use Rattle.processor.specs.Tlb.{lookup}
+use Rattle.lookup.specs.Lookup.{lookup}
 use borrow.Author.Needs.{needs}
 use Rattle.translation.proofs.found.follow.Statement.{statement}
 use Rattle.translation.proofs.found.follow.Tie as tie

@@ -1,0 +1,2 @@
+-- The laws of `exceptions`.
+pub mod EntryLaws

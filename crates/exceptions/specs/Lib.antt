@@ -1,0 +1,2 @@
+-- The definitions of `exceptions`.
+pub mod Entry

@@ -1,0 +1,4 @@
+-- The laws of `kept`, in the order to read them.
+pub mod KeptLaws
+pub mod Loop
+pub mod OnlyLaws

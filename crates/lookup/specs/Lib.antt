@@ -1,0 +1,2 @@
+-- The definitions of `lookup`.
+pub mod Lookup
