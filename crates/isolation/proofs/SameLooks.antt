@@ -26,7 +26,8 @@ use Rattle.instructions.specs.declared.Action.the-variants.{Exception}
 use Rattle.transfer.specs.declared.Read.{Read}
 use Rattle.transfer.specs.declared.Read.the-variants.{Value, Fault}
 use Rattle.machine.specs.State.{Machine}
-use Rattle.machine.specs.Step.{operandsOf, decoded, lookFrom, look}
+use Rattle.look.specs.Look.{operandsOf, decoded, lookFrom}
+use Rattle.machine.specs.Step.{look}
 use Rattle.isolation.specs.Frames.{frameAt, lowWord, ValidUserPage, Reached, ReachedWritable, SameIn}
 use Rattle.isolation.proofs.SameActions.{executed-same}
 

@@ -22,7 +22,7 @@ use Rattle.instructions.specs.declared.Action.{Action}
 use Rattle.instructions.specs.declared.Action.the-variants.{Write, Store, System, Exception}
 use Rattle.transfer.specs.declared.Read.{Read}
 use Rattle.transfer.specs.declared.Read.the-variants.{Value, Fault}
-use Rattle.machine.specs.Step.{storeWidth}
+use Rattle.actions.specs.Actions.{storeWidth}
 use Rattle.words.specs.Lists.{Every}
 use Rattle.decode.proofs.Rows.{_&_, row-at}
 

@@ -25,7 +25,9 @@ use Rattle.instructions.specs.declared.Action.the-variants.{Write, Store, Syste
 use Rattle.transfer.specs.declared.Read.{Read}
 use Rattle.transfer.specs.declared.Read.the-variants.{Value, Fault}
 use Rattle.machine.specs.State.{Machine}
-use Rattle.machine.specs.Step.{surroundingsOf, operandsOf, decoded, lookFrom, look, storeWidth, processorAfter, memoryDone, done, stepOf, stepEid, eidOf}
+use Rattle.look.specs.Look.{operandsOf, decoded, lookFrom}
+use Rattle.actions.specs.Actions.{storeWidth}
+use Rattle.machine.specs.Step.{surroundingsOf, look, processorAfter, memoryDone, done, stepOf, stepEid, eidOf}
 use Rattle.machine.proofs.Looks.{step-done}
 use Rattle.isolation.specs.Frames.{frameAt, lowWord, ValidUserPage, Reached, ReachedWritable, SameIn}
 use Rattle.isolation.specs.Trace.{inUserMode}

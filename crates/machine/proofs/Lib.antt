@@ -1,6 +1,5 @@
 -- The laws of `machine`, in the order to read them.
 pub mod Looks
-pub mod Systems
 pub mod StepLaws
 pub mod PcLaws
 pub mod StepFit

@@ -21,7 +21,8 @@ use Rattle.transfer.specs.declared.Read.{Read}
 use Rattle.transfer.specs.declared.Read.the-variants.{Value, Fault}
 use Rattle.decode.proofs.Named.{Named, NamedRead, read-named, executed-named}
 use Rattle.machine.specs.State.{Machine}
-use Rattle.machine.specs.Step.{surroundingsOf, operandsOf, decoded, lookFrom, look, stepOf, stepEid}
+use Rattle.look.specs.Look.{operandsOf, decoded, lookFrom}
+use Rattle.machine.specs.Step.{surroundingsOf, look, stepOf, stepEid}
 use Rattle.machine.proofs.StepLaws.{fault-enters, fault-named}
 
 -- ---- the look

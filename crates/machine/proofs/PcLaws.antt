@@ -20,7 +20,8 @@ use Rattle.instructions.specs.declared.Action.{Action}
 use Rattle.instructions.specs.declared.Action.the-variants.{Write, Store, System, Exception}
 use Rattle.words.specs.Lists.{Every}
 use Rattle.decode.proofs.Rows.{_&_, every-at}
-use Rattle.machine.specs.Step.{systemDone, processorAfter}
+use Rattle.actions.specs.Actions.{systemDone}
+use Rattle.machine.specs.Step.{processorAfter}
 
 -- ---- the PC of a completed computation is that after the fetch
 

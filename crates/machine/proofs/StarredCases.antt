@@ -29,7 +29,9 @@ use Rattle.transfer.specs.Transfer.{readFrom, load, storeTo, transfers}
 use Rattle.system.specs.System.{privileged, traps, systems}
 use Rattle.decode.specs.Table.{meanings, executed}
 use Rattle.machine.specs.State.{Machine, machine}
-use Rattle.machine.specs.Step.{lookFrom, look, systemDone, storeWidth, stepOf, stepEid}
+use Rattle.look.specs.Look.{lookFrom}
+use Rattle.actions.specs.Actions.{systemDone, storeWidth}
+use Rattle.machine.specs.Step.{look, stepOf, stepEid}
 
 -- ---- the machines of the cases
 

@@ -10,7 +10,8 @@ use Rattle.processor.proofs.FitKept.{entered-fit, returned-fit, written-fit, ju
 use Rattle.instructions.specs.declared.Action.{Action}
 use Rattle.instructions.specs.declared.Action.the-variants.{Write, Store, System, Exception}
 use Rattle.machine.specs.State.{Machine}
-use Rattle.machine.specs.Step.{look, systemDone, processorAfter, stepOf}
+use Rattle.actions.specs.Actions.{systemDone}
+use Rattle.machine.specs.Step.{look, processorAfter, stepOf}
 
 module _ (p : Processor) (f : Fit p) where
   system-fit : (opcode z v : ℕ) → Fit (systemDone opcode z v p)

@@ -7,7 +7,8 @@ use Rattle.interrupt.specs.Interrupt.{channel}
 use Rattle.transfer.specs.Transfer.{readFrom}
 use Rattle.instructions.specs.declared.Action.the-variants.{Exception}
 use Rattle.machine.specs.State.{Machine}
-use Rattle.machine.specs.Step.{surroundingsOf, decoded, lookFrom, look, stepOf, stepEid}
+use Rattle.look.specs.Look.{decoded, lookFrom}
+use Rattle.machine.specs.Step.{surroundingsOf, look, stepOf, stepEid}
 use Rattle.machine.proofs.Looks.{step-done, step-eid}
 
 -- ---- an exception is named for an interrupt that is due, or after a fetch

@@ -21,7 +21,9 @@ use Rattle.transfer.specs.declared.Read.{Read}
 use Rattle.transfer.specs.declared.Read.the-variants.{Value, Fault}
 use Rattle.decode.proofs.Small.{Small, Words, executed-small}
 use Rattle.machine.specs.State.{Machine, Bytes, Representable}
-use Rattle.machine.specs.Step.{surroundingsOf, operandsOf, decoded, lookFrom, look, systemDone, storeWidth, done, stepOf}
+use Rattle.look.specs.Look.{operandsOf, decoded, lookFrom}
+use Rattle.actions.specs.Actions.{systemDone, storeWidth}
+use Rattle.machine.specs.Step.{surroundingsOf, look, done, stepOf}
 use Rattle.machine.proofs.RepresentableKept.{having, special-lt, entered-representable, returned-representable, written-representable, jumped-representable, special-representable, indexed-representable, random-representable, read-representable, searched-representable}
 
 -- past the end of a list the byte is 0

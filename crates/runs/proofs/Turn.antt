@@ -15,7 +15,8 @@ use Rattle.processor.specs.Exception.{entered}
 use Rattle.processor.specs.Register.{put, written, jumped}
 use Rattle.lookup.specs.Lookup.{lookup}
 use Rattle.machine.specs.State.{Machine}
-use Rattle.machine.specs.Step.{lookFrom, look, done, eidOf}
+use Rattle.look.specs.Look.{lookFrom}
+use Rattle.machine.specs.Step.{look, done, eidOf}
 use Rattle.machine.proofs.Looks.{step-done, step-eid}
 use Rattle.machine.proofs.Named.{named-below}
 use Rattle.runs.specs.Run.{outcome, ends, runFrom}

@@ -34,7 +34,7 @@ pub fn advance(
     let mut eid = Processor::NO_EXCEPTION;
     while steps < wanted {
         last = found::follow(&state.tlbhigh, last, state.pc);
-        let action = machine::look_at(
+        let action = look::look_at(
             &registers,
             state.pc,
             state.psw,
@@ -58,11 +58,11 @@ pub fn advance(
                 }
             }
             Action::Store(width, physical, v) => {
-                machine::store(ram, rom, belt, width, physical, v);
+                actions::store(ram, rom, belt, width, physical, v);
                 state = state.jump(sums::add(state.pc, 4));
             }
             Action::System(opcode, z, v) => {
-                state = machine::system(state, opcode, z, v);
+                state = actions::system(state, opcode, z, v);
                 registers = state.registers;
                 last = found::first(&state.tlbhigh);
             }

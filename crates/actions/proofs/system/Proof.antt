@@ -1,15 +1,15 @@
--- `machine::system` meets its contract, by the laws of Systems.
+-- `actions::system` meets its contract, by the laws of Systems.
 use mathlib.Core.Path.{ap₂, _∙_}
 use Prim.Native.Nat.{ℕ}
+use Rattle.instructions.proofs.Arms.{arm}
 use borrow.Author.Needs.{needs}
 use Rattle.processor.specs.Register.{written, specialWritten}
 use Rattle.processor.specs.Tlb.{searched, randomWritten, entryRead, indexedWritten}
 use Rattle.processor.specs.declared.Processor.{Processor}
-use Rattle.instructions.proofs.Arms.{arm}
-use Rattle.machine.specs.Step.{systemDone}
-use Rattle.machine.proofs.Systems.{moved, last}
-use Rattle.machine.proofs.system.Statement.{statement}
-use Rattle.machine.proofs.system.Tie as tie
+use Rattle.actions.specs.Actions.{systemDone}
+use Rattle.actions.proofs.Systems.{moved, last}
+use Rattle.actions.proofs.system.Statement.{statement}
+use Rattle.actions.proofs.system.Tie as tie
 
 add-requires : tie.Need-add-requires
 add-requires c κs = search needs

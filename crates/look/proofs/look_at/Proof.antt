@@ -1,10 +1,10 @@
--- `machine::look_at` meets its contract, by the laws of Looks.
+-- `look::look_at` meets its contract, by the laws of Looks.
 use mathlib.Core.Path.{refl, sym, _∙_}
 use borrow.Author.Needs.{needs}
-use Rattle.machine.proofs.Looks.{executed-next}
-use Rattle.machine.proofs.Looks.{look-interrupt, look-decodes}
-use Rattle.machine.proofs.look_at.Statement.{statement}
-use Rattle.machine.proofs.look_at.Tie as tie
+use Rattle.look.proofs.Looks.{executed-next}
+use Rattle.look.proofs.Looks.{look-interrupt, look-decodes}
+use Rattle.look.proofs.look_at.Statement.{statement}
+use Rattle.look.proofs.look_at.Tie as tie
 
 accepted-requires : tie.Need-accepted-requires
 accepted-requires c κs = search needs

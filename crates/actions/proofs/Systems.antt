@@ -6,7 +6,7 @@ use Rattle.sums.specs.Sums.{sum}
 use Rattle.processor.specs.Register.{jumped}
 use Rattle.processor.specs.Tlb.{indexedWritten}
 use Rattle.processor.specs.declared.Processor.{Processor}
-use Rattle.machine.specs.Step.{systemDone}
+use Rattle.actions.specs.Actions.{systemDone}
 
 pub moved : (f : Processor → Processor) (p : Processor) {next : ℕ} {q r : Processor}
     → next ≡ sum (p .pc) 4 → q ≡ jumped p next → r ≡ f q → r ≡ f (jumped p (sum (p .pc) 4))

@@ -1,13 +1,13 @@
--- `machine::store` meets its contract, by the laws of Looks.
+-- `actions::store` meets its contract, by the laws of Widths.
 use mathlib.Core.Path.{ap, sym, _∙_}
 use Prim.Native.Nat.{ℕ}
 use denote.Ref.{now}
 use borrow.Author.Needs.{needs}
-use Rattle.machine.proofs.Looks.{width-one, width-two, width-four}
+use Rattle.actions.proofs.Widths.{width-one, width-two, width-four}
 use Rattle.memory.specs.Access.{memoryAfter}
 use Rattle.memory.specs.Map.{memory}
-use Rattle.machine.proofs.store.Statement.{statement}
-use Rattle.machine.proofs.store.Tie as tie
+use Rattle.actions.proofs.store.Statement.{statement}
+use Rattle.actions.proofs.store.Tie as tie
 
 store-byte-requires : tie.Need-store-byte-requires
 store-byte-requires c κs = search needs

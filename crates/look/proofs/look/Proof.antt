@@ -1,9 +1,9 @@
--- `machine::look` meets its contract: the index is that of the PC's page.
+-- `look::look` meets its contract: the index is that of the PC's page.
 use mathlib.Core.Path.{_∙_}
 use borrow.Author.Tests.{lt-leb}
 use borrow.Author.Needs.{needs}
-use Rattle.machine.proofs.look.Statement.{statement}
-use Rattle.machine.proofs.look.Tie as tie
+use Rattle.look.proofs.look.Statement.{statement}
+use Rattle.look.proofs.look.Tie as tie
 
 index-of-requires : tie.Need-index-of-requires
 index-of-requires c κs = search needs

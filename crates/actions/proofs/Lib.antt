@@ -1,0 +1,3 @@
+-- The laws of `actions`.
+pub mod Widths
+pub mod Systems

@@ -1,0 +1,2 @@
+-- The definitions of `actions`.
+pub mod Actions

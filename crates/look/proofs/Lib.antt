@@ -1,0 +1,2 @@
+-- The laws of `look`.
+pub mod Looks

@@ -1,0 +1,30 @@
+-- The look by its parts, as the code meets them.
+use mathlib.Core.Path.{_≡_, ap}
+use mathlib.Core.List.{List}
+use Prim.Native.Nat.{ℕ, _≤_, _<_}
+use borrow.Author.Tests.{lt-ltb, le-ltb}
+use Rattle.interrupt.specs.Interrupt.{channel}
+use Rattle.instructions.specs.Operands.{Surroundings, operands}
+use Rattle.decode.specs.Table.{executed}
+use Rattle.transfer.specs.Transfer.{readFrom}
+use Rattle.instructions.specs.declared.Action.{Action}
+use Rattle.instructions.specs.declared.Action.the-variants.{Exception}
+use Rattle.transfer.specs.declared.Read.{Read}
+use Rattle.look.specs.Look.{decoded, lookFrom}
+
+module _ (s : Surroundings) (registers : List ℕ) (pc lines : ℕ) where
+  -- an interrupt that is due
+  pub look-interrupt : (ch : ℕ) → ch ≡ channel (s .psw) lines → ch < 32 → Exception ch 0 0 ≡ lookFrom s registers pc lines
+  unfolding lookFrom
+  look-interrupt ch e h = rw (← e) (simp (lt-ltb ch 32 h))
+
+  -- none: what the fetch brings is decoded
+  pub look-decodes : (ch : ℕ) (r : Read) (a : Action) → ch ≡ channel (s .psw) lines → 32 ≤ ch → readFrom 4 s pc ≡ r
+      → a ≡ decoded s registers pc r → a ≡ lookFrom s registers pc lines
+  unfolding lookFrom
+  look-decodes ch r a e h f g = rw (← e, f) (simp (le-ltb ch 32 h) g)
+
+-- the PC after the fetch, as the code computed it
+pub executed-next : (s : Surroundings) (x y word next next′ : ℕ) → next ≡ next′
+    → executed s (operands x y word next) ≡ executed s (operands x y word next′)
+executed-next s x y word next next′ e = ap (λ (n : ℕ). executed s (operands x y word n)) e

@@ -1,0 +1,2 @@
+-- The definitions of `look`.
+pub mod Look
