@@ -23,13 +23,14 @@ use Rattle.translation.specs.declared.Translation.the-variants.{Physical, TlbMi
 use Rattle.instructions.specs.Operands.{Surroundings, Operands, simple, fieldY}
 use Rattle.compute.specs.Compute.{unlessZero, computations}
 use Rattle.control.specs.Control.{target, branch, controls}
-use Rattle.transfer.specs.Transfer.{answered, readThrough, readFrom, addressOf, landed, load, settled, storeThrough, storeTo, transfers}
+use Rattle.reads.specs.Reads.{answered, readThrough, readFrom}
+use Rattle.transfer.specs.Transfer.{addressOf, landed, load, settled, storeThrough, storeTo, transfers}
 use Rattle.system.specs.System.{privileged, traps, systems}
 use Rattle.decode.specs.Table.{byPsw, executed}
 use Rattle.instructions.specs.declared.Action.{Action}
 use Rattle.instructions.specs.declared.Action.the-variants.{Write, Store, System, Exception}
-use Rattle.transfer.specs.declared.Read.{Read}
-use Rattle.transfer.specs.declared.Read.the-variants.{Value, Fault}
+use Rattle.reads.specs.declared.Read.{Read}
+use Rattle.reads.specs.declared.Read.the-variants.{Value, Fault}
 use Rattle.words.specs.Lists.{Every}
 use Rattle.decode.proofs.Rows.{_&_, Always, executed-always}
 

@@ -6,7 +6,8 @@ use Rattle.memory.specs.Map.{Memory}
 use Rattle.instructions.specs.Operands.{Surroundings, surroundings, Operands, Simple, Meaning, simple, illegal, opcodeOf, fieldY}
 use Rattle.compute.specs.Compute.{computations}
 use Rattle.control.specs.Control.{controls}
-use Rattle.transfer.specs.Transfer.{readFrom, addressOf, landed, load, storeTo, transfers}
+use Rattle.reads.specs.Reads.{readFrom}
+use Rattle.transfer.specs.Transfer.{addressOf, landed, load, storeTo, transfers}
 use Rattle.system.specs.System.{SystemMeaning, traps, systems}
 use Rattle.decode.specs.Table.{byPsw, executed}
 use Rattle.words.specs.Lists.{Every}

@@ -20,11 +20,12 @@ use Rattle.translation.specs.declared.Translation.{Translation}
 use Rattle.translation.specs.declared.Translation.the-variants.{Physical, TlbMiss, TlbWrite, TlbInvalid, IllegalAddress, PrivilegedAddress}
 use Rattle.translation.proofs.Granted.{Granted, user-granted}
 use Rattle.instructions.specs.Operands.{Surroundings, surroundings}
-use Rattle.transfer.specs.Transfer.{answered, readThrough, readFrom, settled, storeThrough, storeTo}
+use Rattle.reads.specs.Reads.{answered, readThrough, readFrom}
+use Rattle.transfer.specs.Transfer.{settled, storeThrough, storeTo}
 use Rattle.instructions.specs.declared.Action.{Action}
 use Rattle.instructions.specs.declared.Action.the-variants.{Exception}
-use Rattle.transfer.specs.declared.Read.{Read}
-use Rattle.transfer.specs.declared.Read.the-variants.{Value, Fault}
+use Rattle.reads.specs.declared.Read.{Read}
+use Rattle.reads.specs.declared.Read.the-variants.{Value, Fault}
 use Rattle.machine.specs.State.{Machine}
 use Rattle.look.specs.Look.{operandsOf, decoded, lookFrom}
 use Rattle.machine.specs.Step.{look}

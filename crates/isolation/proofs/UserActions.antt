@@ -15,13 +15,14 @@ use Rattle.translation.specs.declared.Translation.the-variants.{Physical, TlbMi
 use Rattle.instructions.specs.Operands.{Surroundings, Operands, Simple, Meaning, simple, illegal, opcodeOf, fieldY}
 use Rattle.compute.specs.Compute.{unlessZero, computations}
 use Rattle.control.specs.Control.{branch, controls}
-use Rattle.transfer.specs.Transfer.{readFrom, addressOf, landed, load, settled, storeThrough, storeTo, transfers}
+use Rattle.reads.specs.Reads.{readFrom}
+use Rattle.transfer.specs.Transfer.{addressOf, landed, load, settled, storeThrough, storeTo, transfers}
 use Rattle.system.specs.System.{SystemMeaning, privileged, traps, systems}
 use Rattle.decode.specs.Table.{byPsw, executed}
 use Rattle.instructions.specs.declared.Action.{Action}
 use Rattle.instructions.specs.declared.Action.the-variants.{Write, Store, System, Exception}
-use Rattle.transfer.specs.declared.Read.{Read}
-use Rattle.transfer.specs.declared.Read.the-variants.{Value, Fault}
+use Rattle.reads.specs.declared.Read.{Read}
+use Rattle.reads.specs.declared.Read.the-variants.{Value, Fault}
 use Rattle.actions.specs.Actions.{storeWidth}
 use Rattle.words.specs.Lists.{Every}
 use Rattle.decode.proofs.Rows.{_&_, row-at}

@@ -19,11 +19,11 @@ use Rattle.processor.specs.Register.{written, jumped}
 use Rattle.processor.specs.declared.Processor.{Processor}
 use Rattle.status.proofs.PswLaws.{pushed-kernel}
 use Rattle.translation.proofs.Granted.{user-granted}
-use Rattle.transfer.specs.Transfer.{readFrom}
+use Rattle.reads.specs.Reads.{readFrom}
 use Rattle.instructions.specs.declared.Action.{Action}
 use Rattle.instructions.specs.declared.Action.the-variants.{Write, Store, System, Exception}
-use Rattle.transfer.specs.declared.Read.{Read}
-use Rattle.transfer.specs.declared.Read.the-variants.{Value, Fault}
+use Rattle.reads.specs.declared.Read.{Read}
+use Rattle.reads.specs.declared.Read.the-variants.{Value, Fault}
 use Rattle.machine.specs.State.{Machine}
 use Rattle.look.specs.Look.{operandsOf, decoded, lookFrom}
 use Rattle.actions.specs.Actions.{storeWidth}

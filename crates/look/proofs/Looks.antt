@@ -6,10 +6,10 @@ use borrow.Author.Tests.{lt-ltb, le-ltb}
 use Rattle.interrupt.specs.Interrupt.{channel}
 use Rattle.instructions.specs.Operands.{Surroundings, operands}
 use Rattle.decode.specs.Table.{executed}
-use Rattle.transfer.specs.Transfer.{readFrom}
+use Rattle.reads.specs.Reads.{readFrom}
 use Rattle.instructions.specs.declared.Action.{Action}
 use Rattle.instructions.specs.declared.Action.the-variants.{Exception}
-use Rattle.transfer.specs.declared.Read.{Read}
+use Rattle.reads.specs.declared.Read.{Read}
 use Rattle.look.specs.Look.{decoded, lookFrom}
 
 module _ (s : Surroundings) (registers : List ℕ) (pc lines : ℕ) where

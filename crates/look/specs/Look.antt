@@ -7,12 +7,12 @@ use lib.ListN.{getD}
 use Rattle.sums.specs.Sums.{sum}
 use Rattle.interrupt.specs.Interrupt.{channel}
 use Rattle.instructions.specs.Operands.{Surroundings, Operands, operands, fieldX, fieldY}
-use Rattle.transfer.specs.Transfer.{readFrom}
+use Rattle.reads.specs.Reads.{readFrom}
 use Rattle.decode.specs.Table.{executed}
 use Rattle.instructions.specs.declared.Action.{Action}
 use Rattle.instructions.specs.declared.Action.the-variants.{Exception}
-use Rattle.transfer.specs.declared.Read.{Read}
-use Rattle.transfer.specs.declared.Read.the-variants.{Value, Fault}
+use Rattle.reads.specs.declared.Read.{Read}
+use Rattle.reads.specs.declared.Read.the-variants.{Value, Fault}
 
 -- the instruction word's operands in the register file
 abbrev pub operandsOf : List ℕ → ℕ → ℕ → Operands

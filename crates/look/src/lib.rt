@@ -1,7 +1,7 @@
 // The look: what a step does, named before anything is done.
 use instructions::Action;
 use processor::Words;
-use transfer::Read;
+use reads::Read;
 ghost use mathlib.Core.Path.{_≡_};
 ghost use Rattle.memory.specs.Map.{memory};
 ghost use Rattle.translation.specs.Found.{Serves};
@@ -28,7 +28,7 @@ pub fn look_at<'a>(
     if channel < 32 {
         return Action::Exception(channel, 0, 0);
     }
-    let fetched = transfer::fetch(psw, highs, lows, i, ram, rom, belt, pc);
+    let fetched = reads::fetch(psw, highs, lows, i, ram, rom, belt, pc);
     match fetched {
         Read::Value(word) => decode::execute(
             registers,

@@ -14,11 +14,11 @@ use Rattle.interrupt.specs.Interrupt.{lowest, channel}
 use Rattle.translation.specs.Translation.{translated}
 use Rattle.status.proofs.PswLaws.{Fields, fieldsOf, pushed-fields}
 use Rattle.instructions.specs.Operands.{Surroundings}
-use Rattle.transfer.specs.Transfer.{readFrom}
+use Rattle.reads.specs.Reads.{readFrom}
 use Rattle.instructions.specs.declared.Action.{Action}
 use Rattle.instructions.specs.declared.Action.the-variants.{Exception}
-use Rattle.transfer.specs.declared.Read.{Read}
-use Rattle.transfer.specs.declared.Read.the-variants.{Value, Fault}
+use Rattle.reads.specs.declared.Read.{Read}
+use Rattle.reads.specs.declared.Read.the-variants.{Value, Fault}
 use Rattle.decode.proofs.Named.{Named, NamedRead, read-named, executed-named}
 use Rattle.machine.specs.State.{Machine}
 use Rattle.look.specs.Look.{operandsOf, decoded, lookFrom}

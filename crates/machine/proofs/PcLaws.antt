@@ -13,9 +13,10 @@ use Rattle.processor.specs.Register.{written, jumped, special, specialWritten}
 use Rattle.processor.specs.Tlb.{entryWritten, indexedWritten, randomWritten, entryRead, searched}
 use Rattle.instructions.specs.Operands.{Surroundings, Operands, Simple, illegal, fieldY}
 use Rattle.compute.specs.Compute.{unlessZero, computations}
-use Rattle.transfer.specs.Transfer.{readFrom, addressOf, landed, load}
-use Rattle.transfer.specs.declared.Read.{Read}
-use Rattle.transfer.specs.declared.Read.the-variants.{Value, Fault}
+use Rattle.reads.specs.Reads.{readFrom}
+use Rattle.transfer.specs.Transfer.{addressOf, landed, load}
+use Rattle.reads.specs.declared.Read.{Read}
+use Rattle.reads.specs.declared.Read.the-variants.{Value, Fault}
 use Rattle.instructions.specs.declared.Action.{Action}
 use Rattle.instructions.specs.declared.Action.the-variants.{Write, Store, System, Exception}
 use Rattle.words.specs.Lists.{Every}

@@ -25,7 +25,8 @@ use Rattle.translation.specs.Translation.{valid, writable, through, mapped, for
 use Rattle.interrupt.specs.Interrupt.{lowest, channel}
 use Rattle.compute.specs.Compute.{unlessZero, computations}
 use Rattle.control.specs.Control.{target, branch, controls}
-use Rattle.transfer.specs.Transfer.{readFrom, load, storeTo, transfers}
+use Rattle.reads.specs.Reads.{readFrom}
+use Rattle.transfer.specs.Transfer.{load, storeTo, transfers}
 use Rattle.system.specs.System.{privileged, traps, systems}
 use Rattle.decode.specs.Table.{meanings, executed}
 use Rattle.machine.specs.State.{Machine, machine}

@@ -4,7 +4,7 @@ use Prim.Native.Nat.{ℕ, _≤_, _<_}
 use borrow.Author.Tests.{lt-ltb, le-ltb}
 use Rattle.processor.specs.Exception.{entered}
 use Rattle.interrupt.specs.Interrupt.{channel}
-use Rattle.transfer.specs.Transfer.{readFrom}
+use Rattle.reads.specs.Reads.{readFrom}
 use Rattle.instructions.specs.declared.Action.the-variants.{Exception}
 use Rattle.machine.specs.State.{Machine}
 use Rattle.look.specs.Look.{decoded, lookFrom}

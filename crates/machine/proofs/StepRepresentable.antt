@@ -14,11 +14,11 @@ use Rattle.processor.specs.declared.Processor.{Processor}
 use Rattle.processor.specs.Register.{jumped, special}
 use Rattle.interrupt.specs.Interrupt.{channel}
 use Rattle.instructions.specs.Operands.{fieldX, fieldY}
-use Rattle.transfer.specs.Transfer.{readFrom}
+use Rattle.reads.specs.Reads.{readFrom}
 use Rattle.instructions.specs.declared.Action.{Action}
 use Rattle.instructions.specs.declared.Action.the-variants.{Write, Store, System, Exception}
-use Rattle.transfer.specs.declared.Read.{Read}
-use Rattle.transfer.specs.declared.Read.the-variants.{Value, Fault}
+use Rattle.reads.specs.declared.Read.{Read}
+use Rattle.reads.specs.declared.Read.the-variants.{Value, Fault}
 use Rattle.decode.proofs.Small.{Small, Words, executed-small}
 use Rattle.machine.specs.State.{Machine, Bytes, Representable}
 use Rattle.look.specs.Look.{operandsOf, decoded, lookFrom}

@@ -4,8 +4,8 @@ use mathlib.Core.Bool.{Bool}
 use mathlib.Core.List.{List}
 use Prim.Native.Nat.{ℕ, _/_}
 use borrow.Author.Tests.{eq-eqb, ne-eqb}
-use Rattle.transfer.specs.Transfer.{readFrom}
-use Rattle.transfer.specs.declared.Read.the-variants.{Value, Fault}
+use Rattle.reads.specs.Reads.{readFrom}
+use Rattle.reads.specs.declared.Read.the-variants.{Value, Fault}
 use Rattle.machine.specs.State.{Machine}
 use Rattle.machine.specs.Step.{stepOf, stepEid, surroundingsOf}
 use Rattle.tally.specs.Tally.{raisedAt}

@@ -6,9 +6,9 @@ use lib.Dec.{eqb}
 use lib.ListN.{length}
 use Rattle.words.specs.Logic.{both}
 use Rattle.endian.specs.BigEndian.{readAt}
-use Rattle.transfer.specs.Transfer.{readFrom}
-use Rattle.transfer.specs.declared.Read.{Read}
-use Rattle.transfer.specs.declared.Read.the-variants.{Value, Fault}
+use Rattle.reads.specs.Reads.{readFrom}
+use Rattle.reads.specs.declared.Read.{Read}
+use Rattle.reads.specs.declared.Read.the-variants.{Value, Fault}
 use Rattle.machine.specs.State.{Machine}
 use Rattle.machine.specs.Step.{stepOf, stepEid, surroundingsOf}
 use Rattle.record.specs.Calls.{readRefusal}

@@ -1,8 +1,8 @@
 // The model's machine: started, stepped, and its steps counted.
 use processor::Processor;
+use reads::Read;
 use record::Reading;
-use transfer;
-use transfer::Read;
+use reads;
 ghost use mathlib.Core.Path.{_≡_};
 ghost use Rattle.memory.specs.Map.{memory};
 ghost use Rattle.machine.specs.State.{machine};
@@ -43,7 +43,7 @@ fn opcode_at(p: Processor, ram: &[u8], rom: &[u8], belt: &[u8]) -> u32
 {
     let highs = p.tlbhigh;
     let lows = p.tlblow;
-    let fetched = transfer::read_word(p.psw, &highs, &lows, ram, rom, belt, p.pc);
+    let fetched = reads::read_word(p.psw, &highs, &lows, ram, rom, belt, p.pc);
     match fetched {
         Read::Value(word) => word / 0x400_0000,
         Read::Fault(_) => 64,

@@ -1,12 +1,6 @@
--- A translation that is no physical address comes to its fault, in a read and in a store; and what each place of a store comes to.
+-- A translation that is no physical address comes to its fault, in a store; and what each place of a store comes to.
 use mathlib.Core.Path.{_≡_, refl, ap, sym, _∙_}
-use mathlib.Core.Logic.{⊎-elim}
-use mathlib.Core.List.{List, [], _∷_}
 use Prim.Native.Nat.{ℕ}
-use native.Mathlib.Omega.{arith}
-use types.Run.{OneOf}
-use denote.Enum.Declared.{tagOf}
-use Rattle.translation.proofs.Translation as T
 use Rattle.translation.specs.Translation.{translationEid}
 use Rattle.translation.specs.declared.Translation.{Translation}
 use Rattle.translation.specs.declared.Translation.the-variants.{Physical, TlbMiss, TlbWrite, TlbInvalid, IllegalAddress, PrivilegedAddress}
@@ -15,28 +9,13 @@ use Rattle.memory.specs.Access.{storeAnswer, completes}
 use Rattle.memory.specs.declared.Place.{Place}
 use Rattle.memory.specs.declared.Stored.the-variants as stored
 use Rattle.memory.proofs.Outcomes.{answer-at}
-use Rattle.transfer.specs.Transfer.{readThrough, readFrom, landed, settled, storeThrough}
+use Rattle.reads.specs.Reads.{readFrom}
+use Rattle.reads.specs.declared.Read.{Read}
+use Rattle.reads.proofs.Faults.{IsFault, not-physical}
+use Rattle.transfer.specs.Transfer.{landed, settled, storeThrough}
 use Rattle.instructions.specs.Operands.{Surroundings}
 use Rattle.instructions.specs.declared.Action.{Action}
 use Rattle.instructions.specs.declared.Action.the-variants.{Store, Exception}
-use Rattle.transfer.specs.declared.Read.{Read}
-use Rattle.transfer.specs.declared.Read.the-variants.{Fault}
-
--- the tag of a variant that is none of the faults
-abbrev pub IsFault : Translation → Type 0
-IsFault t = OneOf (1 ∷ 2 ∷ 3 ∷ 4 ∷ 5 ∷ []) (tagOf T.the-type t)
-
-not-physical : (x : ℕ) → IsFault (Physical x) → ⊥
-not-physical x h =
-    ⊎-elim (λ e. omega arith) (⊎-elim (λ e. omega arith) (⊎-elim (λ e. omega arith) (⊎-elim (λ e. omega arith) (λ e. omega arith)))) h
-
-pub read-fault : (width : ℕ) (m : Memory) (t : Translation) → IsFault t → Fault (translationEid t) ≡ readThrough width m t
-read-fault width m (Physical x) h = absurd (not-physical x h)
-read-fault width m TlbMiss h = refl
-read-fault width m TlbWrite h = refl
-read-fault width m TlbInvalid h = refl
-read-fault width m IllegalAddress h = refl
-read-fault width m PrivilegedAddress h = refl
 
 pub store-fault : (width : ℕ) (m : Memory) (value address : ℕ) (t : Translation) → IsFault t
     → Exception (translationEid t) address 0 ≡ storeThrough width m value address t

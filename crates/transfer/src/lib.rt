@@ -1,9 +1,9 @@
-// Reads and stores through the translation (manual, 3.2 and 3.5).
+// Loads and stores (manual, 3.5).
 use instructions::Action;
-use memory::Loaded;
 use memory::Place;
 use processor::Processor;
 use processor::Words;
+use reads::Read;
 use translation::Translation;
 use translation::Width;
 use words::extension;
@@ -13,105 +13,7 @@ ghost use Rattle.memory.specs.Map.{memory};
 ghost use Rattle.instructions.specs.Operands.{operands, surroundings, simple, illegal};
 ghost use Rattle.words.specs.Numbers.{zeroExtend};
 ghost use Rattle.translation.specs.Translation.{bytesOf};
-ghost use Rattle.translation.specs.Found.{Serves};
-ghost use Rattle.transfer.specs.Transfer.{readFrom, extensions, landed, storeTo, transfers};
-
-// What a read through the translation brings: a value, or a fault's identifier.
-pub enum Read {
-    Value(u32),
-    Fault(u32),
-}
-
-pub fn read_byte<'a>(
-    psw: u32,
-    highs: &'a Words,
-    lows: &'a Words,
-    ram: &[u8],
-    rom: &[u8],
-    belt: &[u8],
-    address: u32,
-) -> Read
-    ensures { λ r. ⌜ r ≡ readFrom 1 (surroundings psw (now (highs .entry)) (now (lows .entry)) (memory (now (ram .entry)) (now (rom .entry)) (now (belt .entry)))) address ⌝ }
-{
-    let place = translation::translate(psw, highs, lows, Width::Byte, false, address);
-    let Translation::Physical(physical) = place else {
-        return Read::Fault(translation::eid_of(place));
-    };
-    let loaded = memory::load_byte(ram, rom, belt, physical);
-    match loaded {
-        Loaded::Value(v) => Read::Value(v),
-        Loaded::Timeout => Read::Fault(Processor::BUS_TIMEOUT),
-    }
-}
-
-pub fn read_half<'a>(
-    psw: u32,
-    highs: &'a Words,
-    lows: &'a Words,
-    ram: &[u8],
-    rom: &[u8],
-    belt: &[u8],
-    address: u32,
-) -> Read
-    ensures { λ r. ⌜ r ≡ readFrom 2 (surroundings psw (now (highs .entry)) (now (lows .entry)) (memory (now (ram .entry)) (now (rom .entry)) (now (belt .entry)))) address ⌝ }
-{
-    let place = translation::translate(psw, highs, lows, Width::Half, false, address);
-    let Translation::Physical(physical) = place else {
-        return Read::Fault(translation::eid_of(place));
-    };
-    let loaded = memory::load_half(ram, rom, belt, physical);
-    match loaded {
-        Loaded::Value(v) => Read::Value(v),
-        Loaded::Timeout => Read::Fault(Processor::BUS_TIMEOUT),
-    }
-}
-
-pub fn read_word<'a>(
-    psw: u32,
-    highs: &'a Words,
-    lows: &'a Words,
-    ram: &[u8],
-    rom: &[u8],
-    belt: &[u8],
-    address: u32,
-) -> Read
-    ensures { λ r. ⌜ r ≡ readFrom 4 (surroundings psw (now (highs .entry)) (now (lows .entry)) (memory (now (ram .entry)) (now (rom .entry)) (now (belt .entry)))) address ⌝ }
-{
-    let place = translation::translate(psw, highs, lows, Width::Word, false, address);
-    let Translation::Physical(physical) = place else {
-        return Read::Fault(translation::eid_of(place));
-    };
-    let loaded = memory::load_word(ram, rom, belt, physical);
-    match loaded {
-        Loaded::Value(v) => Read::Value(v),
-        Loaded::Timeout => Read::Fault(Processor::BUS_TIMEOUT),
-    }
-}
-
-// The instruction word at the PC, whose page has the index `i`.
-pub fn fetch<'a>(
-    psw: u32,
-    highs: &'a Words,
-    lows: &'a Words,
-    i: usize,
-    ram: &[u8],
-    rom: &[u8],
-    belt: &[u8],
-    pc: u32,
-) -> Read
-    requires { ⌜ Serves (now highs) i pc ⌝ }
-    ensures { λ r. ⌜ r ≡ readFrom 4 (surroundings psw (now (highs .entry)) (now (lows .entry)) (memory (now (ram .entry)) (now (rom .entry)) (now (belt .entry)))) pc ⌝ }
-{
-    let place = translation::translate_at(psw, highs, lows, i, Width::Word, false, pc);
-    let Translation::Physical(physical) = place else {
-        return Read::Fault(translation::eid_of(place));
-    };
-    let loaded = memory::load_word(ram, rom, belt, physical);
-    match loaded {
-        Loaded::Value(v) => Read::Value(v),
-        Loaded::Timeout => Read::Fault(Processor::BUS_TIMEOUT),
-    }
-}
+ghost use Rattle.transfer.specs.Transfer.{extensions, landed, storeTo, transfers};
 
 // A loaded value extended, by the opcode counted from LDW: LDW, LDH, LDHU, LDB, LDBU.
 fn extend(kind: u32, v: u32) -> u32
@@ -194,35 +96,35 @@ pub fn transfer<'a>(
     match kind {
         0 => land(
             0,
-            read_word(psw, highs, lows, ram, rom, belt, address),
+            reads::read_word(psw, highs, lows, ram, rom, belt, address),
             n,
             address,
             next,
         ),
         1 => land(
             1,
-            read_half(psw, highs, lows, ram, rom, belt, address),
+            reads::read_half(psw, highs, lows, ram, rom, belt, address),
             n,
             address,
             next,
         ),
         2 => land(
             2,
-            read_half(psw, highs, lows, ram, rom, belt, address),
+            reads::read_half(psw, highs, lows, ram, rom, belt, address),
             n,
             address,
             next,
         ),
         3 => land(
             3,
-            read_byte(psw, highs, lows, ram, rom, belt, address),
+            reads::read_byte(psw, highs, lows, ram, rom, belt, address),
             n,
             address,
             next,
         ),
         4 => land(
             4,
-            read_byte(psw, highs, lows, ram, rom, belt, address),
+            reads::read_byte(psw, highs, lows, ram, rom, belt, address),
             n,
             address,
             next,

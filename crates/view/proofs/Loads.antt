@@ -17,8 +17,8 @@ use Rattle.memory.proofs.Outcomes.{load-at}
 use Rattle.status.specs.Psw.{userMode}
 use Rattle.processor.specs.declared.Processor.{Processor}
 use Rattle.instructions.specs.Operands.{surroundings}
-use Rattle.transfer.specs.Transfer.{answered, readThrough, readFrom}
-use Rattle.transfer.specs.declared.Read.the-variants.{Value, Fault}
+use Rattle.reads.specs.Reads.{answered, readThrough, readFrom}
+use Rattle.reads.specs.declared.Read.the-variants.{Value, Fault}
 use Rattle.view.specs.View.{viewRefusal, viewOffset, viewPart}
 use Rattle.view.proofs.Lookup.{frame-byte}
 use Rattle.view.proofs.Frame.{first-byte, whole, part-is}

@@ -1,13 +1,13 @@
--- `transfer::read_word` meets its contract, by the laws of Faults.
+-- `reads::read_word` meets its contract, by the laws of Faults.
 use mathlib.Core.Path.{ap, sym, _∙_}
 use denote.Ref.{now}
 use borrow.Author.Needs.{needs}
-use Rattle.transfer.specs.Transfer.{answered, readThrough, readFrom}
-use Rattle.transfer.specs.declared.Read.the-variants.{Fault}
-use Rattle.transfer.proofs.Faults.{read-fault}
+use Rattle.reads.specs.Reads.{answered, readThrough, readFrom}
+use Rattle.reads.specs.declared.Read.the-variants.{Fault}
+use Rattle.reads.proofs.Faults.{read-fault}
 use Rattle.memory.specs.Map.{memory}
-use Rattle.transfer.proofs.read_word.Statement.{statement}
-use Rattle.transfer.proofs.read_word.Tie as tie
+use Rattle.reads.proofs.read_word.Statement.{statement}
+use Rattle.reads.proofs.read_word.Tie as tie
 
 translate-requires : tie.Need-translate-requires
 translate-requires c κs = search needs

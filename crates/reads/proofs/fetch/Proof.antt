@@ -1,13 +1,13 @@
--- `transfer::fetch` meets its contract, by the laws of Faults.
+-- `reads::fetch` meets its contract, by the laws of Faults.
 use mathlib.Core.Path.{ap, sym, _∙_}
 use denote.Ref.{now}
 use borrow.Author.Needs.{needs}
-use Rattle.transfer.specs.Transfer.{answered, readThrough, readFrom}
-use Rattle.transfer.specs.declared.Read.the-variants.{Fault}
-use Rattle.transfer.proofs.Faults.{read-fault}
+use Rattle.reads.specs.Reads.{answered, readThrough, readFrom}
+use Rattle.reads.specs.declared.Read.the-variants.{Fault}
+use Rattle.reads.proofs.Faults.{read-fault}
 use Rattle.memory.specs.Map.{memory}
-use Rattle.transfer.proofs.fetch.Statement.{statement}
-use Rattle.transfer.proofs.fetch.Tie as tie
+use Rattle.reads.proofs.fetch.Statement.{statement}
+use Rattle.reads.proofs.fetch.Tie as tie
 
 translate-at-requires : tie.Need-translate-at-requires
 translate-at-requires c κs = search needs

@@ -1,0 +1,2 @@
+-- The laws of `reads`.
+pub mod Faults

@@ -1,0 +1,2 @@
+-- The definitions of `reads`.
+pub mod Reads
