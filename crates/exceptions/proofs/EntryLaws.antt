@@ -15,6 +15,16 @@ base-small psw = go (eqb (vector psw) 0)
     go true = omega arith
     go false = omega arith
 
+-- a miss below 80000000 goes to base + 8, and one from there up to base + 4, whatever the PSW: in either mode
+pub miss-below : (psw : ℕ) → serviceAddress psw 21 0x00001000 ≡ serviceBase psw + 8
+unfolding serviceAddress userMiss
+miss-below psw = refl
+
+pub miss-above : (psw : ℕ) → serviceAddress psw 21 0x80000000 ≡ serviceBase psw + 4
+unfolding serviceAddress userMiss
+miss-above psw = refl
+
+-- it is a word
 pub service-lt : (psw eid address : ℕ) → serviceAddress psw eid address < 2 ^ 32
 unfolding serviceAddress serviceBase
 service-lt psw eid address = go (eqb (vector psw) 0) (userMiss eid address)
@@ -24,12 +34,3 @@ service-lt psw eid address = go (eqb (vector psw) 0) (userMiss eid address)
     go true false = omega arith
     go false true = omega arith
     go false false = omega arith
-
--- a miss below 80000000 goes to base + 8, and one from there up to base + 4, whatever the PSW: in either mode
-pub miss-below : (psw : ℕ) → serviceAddress psw 21 0x00001000 ≡ serviceBase psw + 8
-unfolding serviceAddress userMiss
-miss-below psw = refl
-
-pub miss-above : (psw : ℕ) → serviceAddress psw 21 0x80000000 ≡ serviceBase psw + 4
-unfolding serviceAddress userMiss
-miss-above psw = refl

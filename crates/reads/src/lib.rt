@@ -31,7 +31,7 @@ pub fn read_byte<'a>(
     let Translation::Physical(physical) = place else {
         return Read::Fault(translation::eid_of(place));
     };
-    let loaded = memory::load_byte(ram, rom, belt, physical);
+    let loaded = loads::load_byte(ram, rom, belt, physical);
     match loaded {
         Loaded::Value(v) => Read::Value(v),
         Loaded::Timeout => Read::Fault(Processor::BUS_TIMEOUT),
@@ -53,7 +53,7 @@ pub fn read_half<'a>(
     let Translation::Physical(physical) = place else {
         return Read::Fault(translation::eid_of(place));
     };
-    let loaded = memory::load_half(ram, rom, belt, physical);
+    let loaded = loads::load_half(ram, rom, belt, physical);
     match loaded {
         Loaded::Value(v) => Read::Value(v),
         Loaded::Timeout => Read::Fault(Processor::BUS_TIMEOUT),
@@ -75,7 +75,7 @@ pub fn read_word<'a>(
     let Translation::Physical(physical) = place else {
         return Read::Fault(translation::eid_of(place));
     };
-    let loaded = memory::load_word(ram, rom, belt, physical);
+    let loaded = loads::load_word(ram, rom, belt, physical);
     match loaded {
         Loaded::Value(v) => Read::Value(v),
         Loaded::Timeout => Read::Fault(Processor::BUS_TIMEOUT),
@@ -100,7 +100,7 @@ pub fn fetch<'a>(
     let Translation::Physical(physical) = place else {
         return Read::Fault(translation::eid_of(place));
     };
-    let loaded = memory::load_word(ram, rom, belt, physical);
+    let loaded = loads::load_word(ram, rom, belt, physical);
     match loaded {
         Loaded::Value(v) => Read::Value(v),
         Loaded::Timeout => Read::Fault(Processor::BUS_TIMEOUT),

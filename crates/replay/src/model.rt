@@ -1,8 +1,8 @@
 // The model's machine: started, stepped, and its steps counted.
 use processor::Processor;
+use reads;
 use reads::Read;
 use record::Reading;
-use reads;
 ghost use mathlib.Core.Path.{_≡_};
 ghost use Rattle.memory.specs.Map.{memory};
 ghost use Rattle.machine.specs.State.{machine};

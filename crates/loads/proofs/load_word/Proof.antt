@@ -1,11 +1,11 @@
--- `memory::load_word` meets its contract, by the laws of Outcomes and Places.
+-- `loads::load_word` meets its contract, by the laws of memory/proofs: Outcomes and Places.
 use mathlib.Core.Path.{sym, _∙_}
 use borrow.Author.Needs.{needs}
 use Rattle.memory.specs.declared.Place.the-variants.{Ram, Rom, Belt}
 use Rattle.memory.proofs.Outcomes.{loads-ram, loads-rom, loads-belt, loads-nothing}
 use Rattle.memory.proofs.Places.{place-lies}
-use Rattle.memory.proofs.load_word.Statement.{statement}
-use Rattle.memory.proofs.load_word.Tie as tie
+use Rattle.loads.proofs.load_word.Statement.{statement}
+use Rattle.loads.proofs.load_word.Tie as tie
 
 place-of-requires : tie.Need-place-of-requires
 place-of-requires c κs = search needs

@@ -1,12 +1,12 @@
--- `memory::store_byte` meets its contract, by the laws of Outcomes and Places.
+-- `stores::store_byte` meets its contract, by the laws of memory/proofs: Outcomes and Places.
 use mathlib.Core.Path.{sym, _∙_}
 use native.Mathlib.Omega.{arith}
 use borrow.Author.Needs.{needs}
 use Rattle.memory.specs.declared.Place.the-variants.{Ram}
 use Rattle.memory.proofs.Outcomes.{stores-ram, stores-rom, stores-nothing, stores-no-belt}
 use Rattle.memory.proofs.Places.{place-lies}
-use Rattle.memory.proofs.store_byte.Statement.{statement}
-use Rattle.memory.proofs.store_byte.Tie as tie
+use Rattle.stores.proofs.store_byte.Statement.{statement}
+use Rattle.stores.proofs.store_byte.Tie as tie
 
 place-of-requires : tie.Need-place-of-requires
 place-of-requires c κs = search needs

@@ -1,12 +1,12 @@
--- `memory::load_half` meets its contract, by the laws of Outcomes and Places.
+-- `loads::load_half` meets its contract, by the laws of memory/proofs: Outcomes and Places.
 use mathlib.Core.Path.{sym, _∙_}
 use native.Mathlib.Omega.{arith}
 use borrow.Author.Needs.{needs}
 use Rattle.memory.specs.declared.Place.the-variants.{Ram, Rom}
 use Rattle.memory.proofs.Outcomes.{loads-ram, loads-rom, loads-nothing, loads-no-belt}
 use Rattle.memory.proofs.Places.{place-lies}
-use Rattle.memory.proofs.load_half.Statement.{statement}
-use Rattle.memory.proofs.load_half.Tie as tie
+use Rattle.loads.proofs.load_half.Statement.{statement}
+use Rattle.loads.proofs.load_half.Tie as tie
 
 place-of-requires : tie.Need-place-of-requires
 place-of-requires c κs = search needs
