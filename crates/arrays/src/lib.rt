@@ -22,7 +22,7 @@ pub fn put_words(s: &mut [u8], at: usize, stride: usize, words: &[u32])
 {
     let mut i = 0;
     while i < words.len() {
-        endian::write_word(s, at + i * stride, words[i]);
+        endianwrite::write_word(s, at + i * stride, words[i]);
         i += 1;
     }
 }

@@ -36,7 +36,7 @@ pub fn patch_word(s: &mut [u8], at: u32, v: u32) -> bool
     if s.len() < start + 4 {
         return false;
     }
-    endian::write_word(s, start, v);
+    endianwrite::write_word(s, start, v);
     true
 }
 
@@ -48,6 +48,6 @@ pub fn patch_byte(s: &mut [u8], at: u32, v: u32) -> bool
     if s.len() < start + 1 {
         return false;
     }
-    endian::write_byte(s, start, v);
+    endianwrite::write_byte(s, start, v);
     true
 }

@@ -73,8 +73,8 @@ fn rom_of(first: u32, second: u32) -> [u8; 8192]
     ensures { λ r. ⌜ 8192 ≡ length r ⌝ }
 {
     let mut rom = [0u8; 8192];
-    endian::write_word(&mut rom, 0, first);
-    endian::write_word(&mut rom, 4, second);
+    endianwrite::write_word(&mut rom, 0, first);
+    endianwrite::write_word(&mut rom, 4, second);
     rom
 }
 

@@ -87,15 +87,15 @@ pub fn put(p: Processor, s: &mut [u8])
     ensures { λ r. ⌜ now (s .exit) ≡ recordOf p ⌝ }
 {
     let specials = [p.psw, p.index, p.entryhigh, p.entrylow, p.badaddress];
-    endian::write_byte(s, REGISTERS_KIND_AT, 1);
+    endianwrite::write_byte(s, REGISTERS_KIND_AT, 1);
     arrays::put_words(s, REGISTERS_AT, 4, &p.registers);
-    endian::write_byte(s, PC_KIND_AT, 2);
-    endian::write_word(s, PC_AT, p.pc);
-    endian::write_byte(s, SPECIAL_KIND_AT, 3);
+    endianwrite::write_byte(s, PC_KIND_AT, 2);
+    endianwrite::write_word(s, PC_AT, p.pc);
+    endianwrite::write_byte(s, SPECIAL_KIND_AT, 3);
     arrays::put_words(s, PSW_AT, 4, &specials);
-    endian::write_byte(s, TLB_KIND_AT, 4);
+    endianwrite::write_byte(s, TLB_KIND_AT, 4);
     arrays::put_words(s, TLB_HIGH_AT, 8, &p.tlbhigh);
     arrays::put_words(s, TLB_LOW_AT, 8, &p.tlblow);
-    endian::write_byte(s, REPLACEMENT_KIND_AT, 5);
-    endian::write_byte(s, REPLACEMENT_AT, p.replacement);
+    endianwrite::write_byte(s, REPLACEMENT_KIND_AT, 5);
+    endianwrite::write_byte(s, REPLACEMENT_AT, p.replacement);
 }

@@ -12,7 +12,7 @@ pub fn store_byte(ram: &mut [u8], rom: &[u8], belt: &mut [u8], address: u32, val
     let place = memory::place_of(1, ram.len(), rom.len(), belt.len(), address);
     match place {
         Place::Ram(at) => {
-            endian::write_byte(ram, at as usize, value);
+            endianwrite::write_byte(ram, at as usize, value);
             Stored::Done
         }
         Place::Rom(_) => Stored::Done,
@@ -28,7 +28,7 @@ pub fn store_half(ram: &mut [u8], rom: &[u8], belt: &mut [u8], address: u32, val
     let place = memory::place_of(2, ram.len(), rom.len(), belt.len(), address);
     match place {
         Place::Ram(at) => {
-            endian::write_half(ram, at as usize, value);
+            endianwrite::write_half(ram, at as usize, value);
             Stored::Done
         }
         Place::Rom(_) => Stored::Done,
@@ -44,12 +44,12 @@ pub fn store_word(ram: &mut [u8], rom: &[u8], belt: &mut [u8], address: u32, val
     let place = memory::place_of(4, ram.len(), rom.len(), belt.len(), address);
     match place {
         Place::Ram(at) => {
-            endian::write_word(ram, at as usize, value);
+            endianwrite::write_word(ram, at as usize, value);
             Stored::Done
         }
         Place::Rom(_) => Stored::Done,
         Place::Belt(at) => {
-            endian::write_word(belt, at as usize, value);
+            endianwrite::write_word(belt, at as usize, value);
             Stored::Done
         }
         Place::Nothing => Stored::Timeout,

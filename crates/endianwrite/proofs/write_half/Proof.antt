@@ -1,12 +1,12 @@
--- `endian::write_half` meets its contract, by the laws of Widths.
+-- `endianwrite::write_half` meets its contract, by the laws of Widths.
 use mathlib.Core.Path.{sym}
 use native.Mathlib.Omega.{arith}
 use lib.ListN.{length-set}
 use denote.Ref.{now}
 use borrow.Author.Needs.{needs}
 use Rattle.endian.proofs.Widths.{half-write}
-use Rattle.endian.proofs.write_half.Statement.{statement}
-use Rattle.endian.proofs.write_half.Tie as tie
+use Rattle.endianwrite.proofs.write_half.Statement.{statement}
+use Rattle.endianwrite.proofs.write_half.Tie as tie
 
 cast-s : tie.Need-cast-s
 cast-s c = search needs

@@ -1,10 +1,10 @@
--- `endian::write_byte` meets its contract, by the laws of Widths.
+-- `endianwrite::write_byte` meets its contract, by the laws of Widths.
 use mathlib.Core.Path.{sym}
 use denote.Ref.{now}
 use borrow.Author.Needs.{needs}
 use Rattle.endian.proofs.Widths.{byte-write}
-use Rattle.endian.proofs.write_byte.Statement.{statement}
-use Rattle.endian.proofs.write_byte.Tie as tie
+use Rattle.endianwrite.proofs.write_byte.Statement.{statement}
+use Rattle.endianwrite.proofs.write_byte.Tie as tie
 
 cast-s : tie.Need-cast-s
 cast-s c = search needs

@@ -1,12 +1,12 @@
--- `endian::write_word` meets its contract, by the laws of Widths.
+-- `endianwrite::write_word` meets its contract, by the laws of Widths.
 use mathlib.Core.Path.{sym}
 use native.Mathlib.Omega.{arith}
 use lib.ListN.{length-set}
 use denote.Ref.{now}
 use borrow.Author.Needs.{needs}
 use Rattle.endian.proofs.Widths.{word-write}
-use Rattle.endian.proofs.write_word.Statement.{statement}
-use Rattle.endian.proofs.write_word.Tie as tie
+use Rattle.endianwrite.proofs.write_word.Statement.{statement}
+use Rattle.endianwrite.proofs.write_word.Tie as tie
 
 cast-s : tie.Need-cast-s
 cast-s c = search needs
