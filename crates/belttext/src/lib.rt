@@ -7,6 +7,9 @@ ghost use lib.ListN.{length};
 ghost use lib.Seq.{paste};
 ghost use Rattle.belttext.specs.Text.{hexDigit, decimalDigit, lineOf, shortInput, placed, countOf};
 
+// A digit, eight digits and two, with blanks between and a line feed.
+pub type Line = [u8; 14];
+
 // The lowest hexadecimal digit of a word.
 fn hex_digit(w: u32) -> u8
     ensures { λ r. ⌜ r ≡ hexDigit (w % 16) ⌝ }
@@ -34,7 +37,7 @@ fn eid_digit(eid: u32, n: u32) -> u8
     b'-'
 }
 
-pub fn line(step: u32, pc: u32, eid: u32) -> [u8; 14]
+pub fn line(step: u32, pc: u32, eid: u32) -> Line
     ensures { λ r. ⌜ r ≡ lineOf step pc eid ⌝ }
 {
     [

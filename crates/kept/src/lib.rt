@@ -2,6 +2,9 @@
 ghost use mathlib.Core.Path.{_≡_};
 ghost use Rattle.kept.specs.Kept.{keptPsw, keptIndex, keptHigh, keptLow, after, onlySpecial, onlyFrom};
 
+// The high or low words of the TLB.
+pub type Words = [u32; 32];
+
 pub fn kept_psw(v: u32) -> u32
     ensures { λ r. ⌜ r ≡ keptPsw v ⌝ }
 {
@@ -52,7 +55,7 @@ pub fn only_special(psw: u32, index: u32, high: u32, low: u32) -> bool
     kept_low(low) == low
 }
 
-pub fn only_high(words: &[u32; 32]) -> bool
+pub fn only_high(words: &Words) -> bool
     ensures { λ r. ⌜ r ≡ onlyFrom keptHigh 32 (now (words .entry)) 0 ⌝ }
 {
     let mut i: usize = 0;
@@ -66,7 +69,7 @@ pub fn only_high(words: &[u32; 32]) -> bool
     true
 }
 
-pub fn only_low(words: &[u32; 32]) -> bool
+pub fn only_low(words: &Words) -> bool
     ensures { λ r. ⌜ r ≡ onlyFrom keptLow 32 (now (words .entry)) 0 ⌝ }
 {
     let mut i: usize = 0;

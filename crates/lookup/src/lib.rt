@@ -2,8 +2,11 @@
 ghost use mathlib.Core.Path.{_≡_};
 ghost use Rattle.lookup.specs.Lookup.{lookup, foundIndex, nextReplacement};
 
+// The high words of the TLB.
+pub type Words = [u32; 32];
+
 // The lowest index of a page's entry, or 32.
-pub fn find(highs: &[u32; 32], page: u32) -> usize
+pub fn find(highs: &Words, page: u32) -> usize
     ensures { λ r. ⌜ r ≡ lookup (now (highs .entry)) page ⌝ }
 {
     let mut i: usize = 0;
