@@ -7,6 +7,7 @@ use native.Mathlib.Numerals.{add-one}
 use native.Mathlib.Omega.{arith}
 use lib.ListN.{length, getD, set, take, drop, drop-of-length-le}
 use lib.Seq.{take-all, drop-cons, take-suc-set, append-snoc}
+use Rattle.words.proofs.Counts.{left}
 use Rattle.endian.specs.BigEndian.{readAt, writeAt}
 use Rattle.arrays.specs.Numbers.{wordsAt, wordsPut}
 
@@ -20,9 +21,6 @@ in-slice n stride at i size h k =
 -- the next place
 next-place : (at stride i : ℕ) → at + i * stride + stride ≡ at + (i + 1) * stride
 next-place at stride i = rw (add-one i) (let next : suc i * stride ≡ i * stride + stride = suc-mul i stride in omega arith)
-
-left : (n i : ℕ) → i < n → n - i ≡ suc (n - (i + 1))
-left n i h = omega arith
 
 module _ (s : List ℕ) (at stride n i : ℕ) (words : List ℕ) (e : length words ≡ n) where
   pub get-more : i < n

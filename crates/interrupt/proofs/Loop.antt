@@ -1,18 +1,12 @@
 -- The search for the lowest bit that is set, as its loop runs: a turn more, a turn that ends the search, and the end.
 use mathlib.Core.Path.{_≡_}
-use Prim.Native.Nat.{ℕ, suc, _+_, _-_, _/_, _%_, _≤_, _<_}
+use Prim.Native.Nat.{ℕ, _+_, _-_, _/_, _%_, _≤_, _<_}
 use native.Mathlib.Numerals.{add-one}
-use native.Mathlib.Omega.{arith}
 use borrow.Author.Tests.{eq-eqb, ne-eqb}
+use Rattle.words.proofs.Counts.{left, over}
 use Rattle.interrupt.specs.Interrupt.{lowest}
 
 -- of n turns, those left at turn i
-left : (n i : ℕ) → i < n → n - i ≡ suc (n - (i + 1))
-left n i h = omega arith
-
-over : (n i : ℕ) → n ≤ i → n - i ≡ 0
-over n i h = omega arith
-
 module _ (n i ready : ℕ) where
   pub lowest-more : i < n → (ready % 2 ≡ 1 → ⊥) → lowest (n - i) i ready ≡ lowest (n - (i + 1)) (i + 1) (ready / 2)
   unfolding lowest

@@ -2,20 +2,14 @@
 use mathlib.Core.Path.{_≡_}
 use mathlib.Core.Bool.{true, false}
 use mathlib.Core.List.{List}
-use Prim.Native.Nat.{ℕ, suc, _+_, _-_, _≤_, _<_}
+use Prim.Native.Nat.{ℕ, _+_, _-_, _≤_, _<_}
 use native.Mathlib.Numerals.{add-one}
-use native.Mathlib.Omega.{arith}
 use lib.ListN.{getD}
 use borrow.Author.Tests.{eq-eqb, ne-eqb}
+use Rattle.words.proofs.Counts.{left, over}
 use Rattle.kept.specs.Kept.{onlyFrom}
 
 -- of n turns, those left at turn i
-left : (n i : ℕ) → i < n → n - i ≡ suc (n - (i + 1))
-left n i h = omega arith
-
-over : (n i : ℕ) → n ≤ i → n - i ≡ 0
-over n i h = omega arith
-
 module _ (kept : ℕ → ℕ) (n : ℕ) (l : List ℕ) (i : ℕ) where
   pub only-more : i < n → kept (getD l i 0) ≡ getD l i 0 → onlyFrom kept (n - i) l i ≡ onlyFrom kept (n - (i + 1)) l (i + 1)
   unfolding onlyFrom

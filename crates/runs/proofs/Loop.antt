@@ -1,10 +1,11 @@
 -- The loop of a run: a turn more, a turn that ends the run, and the end at the wanted count.
 use mathlib.Core.Path.{_≡_, refl, ap, ap₂, sym, _∙_}
 use mathlib.Core.Bool.{Bool, true, false}
-use Prim.Native.Nat.{ℕ, suc, _+_, _-_, _≤_, _<_}
+use Prim.Native.Nat.{ℕ, _+_, _-_, _≤_, _<_}
 use native.Mathlib.Numerals.{add-one}
 use native.Mathlib.Omega.{arith}
 use borrow.Author.Tests.{lt-ltb, le-ltb}
+use Rattle.words.proofs.Counts.{left, over}
 use Rattle.machine.specs.State.{Machine}
 use Rattle.machine.specs.Step.{stepOf, stepEid}
 use Rattle.runs.specs.Run.{Outcome, outcome, ends, runFrom}
@@ -25,12 +26,6 @@ unfolding ends
 exception-ends kind eid e h = rw e (lt-ltb eid 32 h)
 
 -- ---- the turns
-
-left : (n i : ℕ) → i < n → n - i ≡ suc (n - (i + 1))
-left n i h = omega arith
-
-over : (n i : ℕ) → n ≤ i → n - i ≡ 0
-over n i h = omega arith
 
 pub one-more : (n i : ℕ) → i < n → i + 1 ≤ n
 one-more n i h = omega arith
