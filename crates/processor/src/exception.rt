@@ -27,23 +27,12 @@ impl Processor {
     }
 
     // RFX.
-    pub fn leave(self) -> Self
+    pub fn leave(mut self) -> Self
         ensures { λ r. ⌜ r ≡ returned self ⌝ }
     {
         let registers = self.registers;
-        let tlbhigh = self.tlbhigh;
-        let tlblow = self.tlblow;
-        Self {
-            registers: registers,
-            pc: registers[30],
-            psw: status::pop(self.psw),
-            index: self.index,
-            entryhigh: self.entryhigh,
-            entrylow: self.entrylow,
-            badaddress: self.badaddress,
-            tlbhigh: tlbhigh,
-            tlblow: tlblow,
-            replacement: self.replacement,
-        }
+        self.pc = registers[30];
+        self.psw = status::pop(self.psw);
+        self
     }
 }

@@ -10,21 +10,11 @@ impl Processor {
         let registers = self.registers;
         let tlbhigh = self.tlbhigh;
         let tlblow = self.tlblow;
-        if registers[0] != 0 {
-            return false;
-        }
-        if self.replacement < 4 {
-            return false;
-        }
-        if 31 < self.replacement {
-            return false;
-        }
-        if kept::only_special(self.psw, self.index, self.entryhigh, self.entrylow) {
-            if kept::only_high(&tlbhigh) {
-                return kept::only_low(&tlblow);
-            }
-            return false;
-        }
-        false
+        kept::all(
+            registers[0] == 0,
+            kept::between(self.replacement, 4, 31),
+            kept::only_special(self.psw, self.index, self.entryhigh, self.entrylow),
+            kept::only_words(&tlbhigh, &tlblow),
+        )
     }
 }

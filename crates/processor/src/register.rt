@@ -65,23 +65,14 @@ impl Processor {
     }
 
     // Only kept bits are stored, and nothing for a number above 4.
-    pub fn write_special(self, number: u32, value: u32) -> Self
+    pub fn write_special(mut self, number: u32, value: u32) -> Self
         ensures { λ r. ⌜ r ≡ specialWritten self number value ⌝ }
     {
-        let registers = self.registers;
-        let tlbhigh = self.tlbhigh;
-        let tlblow = self.tlblow;
-        Self {
-            registers: registers,
-            pc: self.pc,
-            psw: kept::after(number, 0, kept::kept_psw(value), self.psw),
-            index: kept::after(number, 1, kept::kept_index(value), self.index),
-            entryhigh: kept::after(number, 2, kept::kept_high(value), self.entryhigh),
-            entrylow: kept::after(number, 3, kept::kept_low(value), self.entrylow),
-            badaddress: kept::after(number, 4, value, self.badaddress),
-            tlbhigh: tlbhigh,
-            tlblow: tlblow,
-            replacement: self.replacement,
-        }
+        self.psw = kept::psw_after(number, value, self.psw);
+        self.index = kept::index_after(number, value, self.index);
+        self.entryhigh = kept::high_after(number, value, self.entryhigh);
+        self.entrylow = kept::low_after(number, value, self.entrylow);
+        self.badaddress = kept::after(number, 4, value, self.badaddress);
+        self
     }
 }

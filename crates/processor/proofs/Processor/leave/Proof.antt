@@ -4,8 +4,8 @@ use Rattle.processor.specs.Exception.{returned}
 use Rattle.processor.proofs.Processor.leave.Statement.{statement}
 use Rattle.processor.proofs.Processor.leave.Tie as tie
 
-array-read-t8 : tie.Need-array-read-t8
-array-read-t8 c = search needs
+array-read-self : tie.Need-array-read-self
+array-read-self c = search needs
 
 pop-requires : tie.Need-pop-requires
 pop-requires c κs = search needs
@@ -15,4 +15,4 @@ unfolding returned
 returns c = simp (c .pop .ensures)
 
 pub leave-spec : {M : Type 1} → statement M
-leave-spec = tie.close (tie.spec array-read-t8 pop-requires returns)
+leave-spec = tie.close (tie.spec array-read-self pop-requires returns)

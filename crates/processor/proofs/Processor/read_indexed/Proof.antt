@@ -7,20 +7,17 @@ use Rattle.processor.proofs.Processor.read_indexed.Tie as tie
 cast-i : tie.Need-cast-i
 cast-i c = search needs
 
-mul-with-tlb-registers : tie.Need-mul-with-tlb-registers
-mul-with-tlb-registers c = search needs
+mul-self : tie.Need-mul-self
+mul-self c = search needs
 
-array-read-with-tlb-registers : tie.Need-array-read-with-tlb-registers
-array-read-with-tlb-registers c = search needs
+array-read-self : tie.Need-array-read-self
+array-read-self c = search needs
 
-mul-with-tlb-registers-2 : tie.Need-mul-with-tlb-registers-2
-mul-with-tlb-registers-2 c = search needs
+mul-self-2 : tie.Need-mul-self-2
+mul-self-2 c = search needs
 
-array-read-with-tlb-registers-2 : tie.Need-array-read-with-tlb-registers-2
-array-read-with-tlb-registers-2 c = search needs
-
-with-tlb-registers-requires : tie.Need-with-tlb-registers-requires
-with-tlb-registers-requires c κs = search needs
+array-read-self-2 : tie.Need-array-read-self-2
+array-read-self-2 c = search needs
 
 returns : tie.Need-returns
 unfolding entryRead
@@ -28,12 +25,4 @@ returns c = search needs
 
 pub read-indexed-spec : {M : Type 1} → statement M
 read-indexed-spec =
-    tie.close
-    (tie.spec
-    cast-i
-    mul-with-tlb-registers
-    array-read-with-tlb-registers
-    mul-with-tlb-registers-2
-    array-read-with-tlb-registers-2
-    with-tlb-registers-requires
-    returns)
+    tie.close (tie.spec cast-i mul-self array-read-self mul-self-2 array-read-self-2 returns)

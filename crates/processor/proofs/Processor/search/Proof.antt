@@ -10,13 +10,9 @@ find-requires c κs = search needs
 found-index-requires : tie.Need-found-index-requires
 found-index-requires c κs = search needs
 
-with-tlb-registers-requires : tie.Need-with-tlb-registers-requires
-with-tlb-registers-requires c κs = search needs
-
 returns : tie.Need-returns
 unfolding searched
-returns c = simp (c .with-tlb-registers .ensures, c .before .found-index .ensures, c .before .before .find .ensures)
+returns c = simp (c .found-index .ensures, c .before .find .ensures)
 
 pub search-spec : {M : Type 1} → statement M
-search-spec =
-    tie.close (tie.spec find-requires found-index-requires with-tlb-registers-requires returns)
+search-spec = tie.close (tie.spec find-requires found-index-requires returns)
