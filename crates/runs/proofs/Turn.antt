@@ -1,19 +1,21 @@
 -- One turn of the loop, by the action that the look named, and what stands beside the state: a copy of its registers, and a TLB entry.
 use mathlib.Core.Path.{_≡_, ap, sym, subst, _∙_}
-use mathlib.Core.Bool.{Bool, true, false}
+use mathlib.Core.Bool.{Bool, true, false, cond}
 use mathlib.Core.List.{List}
 use Prim.Native.Nat.{ℕ, _+_, _-_, _%_, _<_}
 use native.Mathlib.Omega.{arith}
+use lib.Dec.{leb}
 use lib.ListN.{set}
-use borrow.Author.Tests.{eq-eqb, ne-eqb}
+use borrow.Author.Tests.{lt-leb, eq-eqb, ne-eqb}
 use Rattle.memory.specs.Map.{Memory}
+use Rattle.translation.specs.Found.{Serves}
 use Rattle.instructions.specs.Operands.{surroundings}
 use Rattle.instructions.specs.declared.Action.{Action}
 use Rattle.instructions.specs.declared.Action.the-variants.{Exception}
 use Rattle.processor.specs.declared.Processor.{Processor}
 use Rattle.processor.specs.Exception.{entered}
 use Rattle.processor.specs.Register.{put, written, jumped}
-use Rattle.lookup.specs.Lookup.{lookup}
+use Rattle.lookup.specs.Lookup.{pageOf, lookup}
 use Rattle.machine.specs.State.{Machine}
 use Rattle.look.specs.Look.{lookFrom}
 use Rattle.machine.specs.Step.{look, done, eidOf}
@@ -53,6 +55,11 @@ module _ (i page : ℕ) (p q : Processor) (found : i ≡ lookup (p .tlbhigh) pag
   pub enter-found : (eid address : ℕ) → q ≡ entered p eid address → i ≡ lookup (q .tlbhigh) page
   unfolding entered
   enter-found eid address e = found ∙ sym (ap (λ (r : Processor). lookup (r .tlbhigh) page) e)
+
+-- the entry that was followed to serves the address
+pub followed-serves : (highs : List ℕ) (last page i address : ℕ) → page ≡ cond (leb 0xC0000000 address) last (pageOf address)
+    → i ≡ lookup highs page → Serves highs i address
+followed-serves highs last page i address e f = λ below. f ∙ ap (lookup highs) (e ∙ simp (lt-leb 0xC0000000 address below))
 
 -- ---- the run
 

@@ -1,9 +1,10 @@
 // The entry that was looked up last: in a run the next fetch mostly needs the same.
 use processor::Words;
 ghost use mathlib.Core.Path.{_≡_};
+ghost use mathlib.Core.Bool.{cond};
+ghost use lib.Dec.{leb};
 ghost use lib.ListN.{getD};
 ghost use Rattle.lookup.specs.Lookup.{pageOf, lookup};
-ghost use Rattle.translation.specs.Found.{Serves};
 
 pub struct Found {
     pub page: u32,
@@ -23,8 +24,8 @@ pub fn first(highs: &Words) -> Found
 // The entry for an address, where the TLB maps it; otherwise the last one.
 pub fn follow(highs: &Words, last: Found, address: u32) -> Found
     requires { ⌜ last .index ≡ lookup (now highs) (last .page) ⌝ }
-    ensures serves { λ r. ⌜ Serves (now (highs .entry)) (r .index) address ⌝ }
-    ensures page { λ r. ⌜ r .index ≡ lookup (now (highs .entry)) (r .page) ⌝ }
+    ensures page { λ r. ⌜ r .page ≡ cond (leb 0xC0000000 address) (last .page) (pageOf address) ⌝ }
+    ensures index { λ r. ⌜ r .index ≡ lookup (now (highs .entry)) (r .page) ⌝ }
 {
     if 0xC000_0000 <= address {
         return last;

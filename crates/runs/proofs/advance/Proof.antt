@@ -12,7 +12,7 @@ use Rattle.machine.specs.State.{machine}
 use Rattle.machine.proofs.Looks.{joined}
 use Rattle.runs.specs.Run.{runFrom}
 use Rattle.runs.proofs.Loop.{plain-goes-on, none-goes-on, run-end, run-start, one-more, one-less}
-use Rattle.runs.proofs.Turn.{zero-written, jump-kept, write-kept, jump-found, write-found, enter-found, goes-on, stops}
+use Rattle.runs.proofs.Turn.{zero-written, jump-kept, write-kept, jump-found, write-found, enter-found, followed-serves, goes-on, stops}
 use Rattle.runs.proofs.advance.Statement.{statement}
 use Rattle.runs.proofs.advance.Tie as tie
 
@@ -35,7 +35,7 @@ follow-requires : tie.Need-follow-requires Inv-loop μ-loop
 follow-requires c κs = c .before .before .before .loop .inv .5
 
 look-at-requires : tie.Need-look-at-requires Inv-loop μ-loop
-look-at-requires c κs = c .before .before .before .before .before .before .follow .ensures .0
+look-at-requires c κs = followed-serves _ _ _ _ _ (c .before .before .before .before .before .before .follow .ensures .0) (c .before .before .before .before .before .before .follow .ensures .1)
 
 add-steps : tie.Need-add-steps Inv-loop μ-loop
 add-steps c = omega arith
