@@ -2,7 +2,7 @@
 use mathlib.Core.Path.{_≡_, ap₂}
 use Prim.Native.Nat.{ℕ}
 use lib.ListN.{length}
-use Rattle.machine.specs.State.{Machine}
+use Rattle.state.specs.Machine.{Machine}
 use Rattle.machine.specs.Step.{stepOf, stepEid}
 use Rattle.belttext.specs.Text.{hexWord, lineOf}
 use Rattle.belttext.proofs.TextLaws.{eid-parts}

@@ -1,7 +1,7 @@
 -- The line of a step (document 01, "Cases", `beltrun`).
 use mathlib.Core.List.{List}
 use Prim.Native.Nat.{ℕ}
-use Rattle.machine.specs.State.{Machine}
+use Rattle.state.specs.Machine.{Machine}
 use Rattle.machine.specs.Step.{stepOf, stepEid}
 use Rattle.belttext.specs.Text.{lineOf}
 

@@ -4,7 +4,7 @@ ghost use mathlib.Core.Path.{_≡_};
 ghost use Prim.Native.Nat.{_+_, _≤_};
 ghost use lib.ListN.{length};
 ghost use lib.Seq.{paste};
-ghost use Rattle.machine.specs.State.{machine};
+ghost use Rattle.state.specs.Machine.{machine};
 ghost use Rattle.machine.specs.Step.{stepOf};
 ghost use Rattle.beltstep.specs.Line.{stepLine};
 

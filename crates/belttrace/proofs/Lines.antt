@@ -8,7 +8,7 @@ use native.Mathlib.Omega.{arith}
 use borrow.Author.Tests.{lt-ltb, le-ltb}
 use Rattle.processor.specs.State.{atReset}
 use Rattle.processor.specs.declared.Processor.{Processor}
-use Rattle.machine.specs.State.{Machine, machine}
+use Rattle.state.specs.Machine.{Machine, machine}
 use Rattle.machine.specs.Step.{stepOf}
 use Rattle.belttext.specs.Text.{shortInput}
 use Rattle.beltstep.specs.Line.{stepLine}

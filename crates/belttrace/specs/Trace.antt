@@ -5,7 +5,7 @@ use Prim.Native.Nat.{ℕ, zero, suc, _+_}
 use lib.Dec.{ltb}
 use lib.ListN.{length, take, replicate}
 use Rattle.processor.specs.State.{atReset}
-use Rattle.machine.specs.State.{Machine, machine}
+use Rattle.state.specs.Machine.{Machine, machine}
 use Rattle.machine.specs.Step.{stepOf}
 use Rattle.belttext.specs.Text.{shortInput}
 use Rattle.beltstep.specs.Line.{stepLine}

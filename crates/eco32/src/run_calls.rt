@@ -2,7 +2,7 @@
 use runcalls::Answer;
 ghost use mathlib.Core.Path.{_≡_};
 ghost use Rattle.memory.specs.Map.{memory};
-ghost use Rattle.runs.specs.Run.{plain, toException};
+ghost use Rattle.steps.specs.Run.{plain, toException};
 ghost use Rattle.runcalls.specs.Runs.{called, callOf};
 
 #[no_mangle]

@@ -23,6 +23,8 @@ pub const ILLEGAL_ADDRESS: u32 = 24;
 
 pub const PRIVILEGED_ADDRESS: u32 = 25;
 
+pub const NO_EXCEPTION: u32 = 32;
+
 // Service addresses (manual, 2.8.2): the base by V, and the offsets from it.
 pub const ROM_SERVICE: u32 = 0xE000_0000;
 

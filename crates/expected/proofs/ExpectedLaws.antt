@@ -11,7 +11,7 @@ use Rattle.words.specs.Logic.{both}
 use Rattle.memory.specs.Map.{Memory, memory}
 use Rattle.processor.specs.declared.Processor.{Processor}
 use Rattle.processor.specs.State.{atReset, fit}
-use Rattle.machine.specs.State.{Machine, machine}
+use Rattle.state.specs.Machine.{Machine, machine}
 use Rattle.recordlayout.specs.Record.{recordOf}
 use Rattle.record.specs.Calls.{processorRead, writeRefusal, bufferAfter}
 use Rattle.slices.specs.Same.{same}

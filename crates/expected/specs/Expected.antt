@@ -8,7 +8,7 @@ use Rattle.words.specs.Logic.{both}
 use Rattle.memory.specs.Map.{Memory, memory}
 use Rattle.processor.specs.declared.Processor.{Processor}
 use Rattle.processor.specs.State.{atReset, fit}
-use Rattle.machine.specs.State.{Machine, machine}
+use Rattle.state.specs.Machine.{Machine, machine}
 use Rattle.machine.specs.Step.{stepOf, stepEid}
 use Rattle.recordlayout.specs.Record.{recordOf}
 use Rattle.record.specs.Calls.{processorRead, bufferAfter}

@@ -2,7 +2,7 @@
 use processor::Processor;
 ghost use mathlib.Core.Path.{_≡_};
 ghost use Rattle.memory.specs.Map.{memory};
-ghost use Rattle.machine.specs.State.{machine};
+ghost use Rattle.state.specs.Machine.{machine};
 ghost use Rattle.expected.specs.Expected.{expected, clear, patchFits, patched, recordAgrees, memoryAgrees, agrees};
 
 const RECORD: usize = 414;

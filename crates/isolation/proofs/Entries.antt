@@ -15,10 +15,10 @@ use Rattle.record.specs.Calls.{readRefusal}
 use Rattle.recordlayout.proofs.KindLaws.{means-kinds}
 use Rattle.recordlayout.proofs.Written.{record-length}
 use Rattle.record.proofs.WrittenRead.{Value, holds}
-use Rattle.machine.specs.State.{Machine, Words32, Representable}
+use Rattle.state.specs.Machine.{Machine, Words32, Representable}
 use Rattle.refusal.specs.Refusal.{check, memoryChecked, stepsChecked, runRefusal}
-use Rattle.runs.specs.Run.{Outcome, runFrom, refused, runOf}
-use Rattle.runs.proofs.RunRepresentable.{run-representable}
+use Rattle.steps.specs.Run.{Outcome, runFrom, refused, runOf}
+use Rattle.steps.proofs.RunRepresentable.{run-representable}
 use Rattle.recordcalls.specs.Records.{recordChecked}
 use Rattle.runcalls.specs.Runs.{machineIn, recorded, called, callRefusal, callOf}
 use Rattle.isolation.specs.Trace.{Entry, ByValue, Exported, Call, traceFrom, handedBack, outcomeBy, traceBy, callOutcome, callTrace}

@@ -4,7 +4,7 @@ use mathlib.Core.Bool.{Bool, true, false, cond, true≢false}
 use mathlib.Core.List.{List, [], _∷_}
 use Prim.Native.Nat.{ℕ}
 use Rattle.memory.specs.Map.{Memory}
-use Rattle.machine.specs.State.{Machine, Representable}
+use Rattle.state.specs.Machine.{Machine, Representable}
 use Rattle.isolation.specs.Frames.{SameIn}
 use Rattle.words.specs.Lists.{Every, Pairwise}
 use Rattle.isolation.specs.Trace.{Call, inUserMode, callOutcome, callTrace, traceOf, upToLeaving, madeInUserMode, answersOf}

@@ -16,11 +16,11 @@ use Rattle.status.specs.Psw.{userMode}
 use Rattle.processor.specs.declared.Processor.{Processor}
 use Rattle.instructions.specs.declared.Action.{Action}
 use Rattle.instructions.specs.declared.Action.the-variants.{Write, Store, System, Exception}
-use Rattle.machine.specs.State.{Machine, Representable}
+use Rattle.state.specs.Machine.{Machine, Representable}
 use Rattle.actions.specs.Actions.{storeWidth}
 use Rattle.machine.specs.Step.{look, memoryDone, stepOf, stepEid}
 use Rattle.refusal.specs.Refusal.{pagesUpTo, ramAccepted, romAccepted, check, lengthsChecked, runRefusal}
-use Rattle.runs.specs.Run.{Answer, Outcome, outcome, ends, runFrom, refused, runOf}
+use Rattle.steps.specs.Run.{Answer, Outcome, outcome, ends, runFrom, refused, runOf}
 use Rattle.machine.proofs.StepRepresentable.{step-representable}
 use Rattle.isolation.specs.Frames.{Reached, SameIn}
 use Rattle.words.specs.Lists.{Every, Pairwise}

@@ -5,9 +5,9 @@ use mathlib.Core.List.{List, [], _∷_, _++_}
 use Prim.Native.Nat.{ℕ}
 use lib.Dec.{eqb}
 use borrow.Author.Tests.{eqb-true}
-use Rattle.machine.specs.State.{Machine}
+use Rattle.state.specs.Machine.{Machine}
 use Rattle.refusal.specs.Refusal.{runRefusal}
-use Rattle.runs.specs.Run.{Outcome, runFrom, refused, runOf}
+use Rattle.steps.specs.Run.{Outcome, runFrom, refused, runOf}
 use Rattle.isolation.specs.Trace.{Call, inUserMode, traceFrom, callOutcome, callTrace, madeInUserMode}
 use Rattle.isolation.proofs.Entries.{outcome-is, trace-is}
 use Rattle.isolation.proofs.Lift.{Both, refusal-same, accepted-parts, Ended, run-ends, Pairs, Onward, run-pairs}

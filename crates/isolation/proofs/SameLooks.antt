@@ -26,7 +26,7 @@ use Rattle.instructions.specs.declared.Action.{Action}
 use Rattle.instructions.specs.declared.Action.the-variants.{Exception}
 use Rattle.reads.specs.declared.Read.{Read}
 use Rattle.reads.specs.declared.Read.the-variants.{Value, Fault}
-use Rattle.machine.specs.State.{Machine}
+use Rattle.state.specs.Machine.{Machine}
 use Rattle.look.specs.Look.{operandsOf, decoded, lookFrom}
 use Rattle.machine.specs.Step.{look}
 use Rattle.isolation.specs.Frames.{frameAt, lowWord, ValidUserPage, Reached, ReachedWritable, SameIn}

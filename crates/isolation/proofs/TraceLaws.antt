@@ -5,9 +5,9 @@ use mathlib.Core.List.{List, [], _∷_}
 use Prim.Native.Nat.{ℕ, zero, suc, _+_}
 use native.Mathlib.Omega.{arith}
 use lib.ListN.{length}
-use Rattle.machine.specs.State.{Machine}
+use Rattle.state.specs.Machine.{Machine}
 use Rattle.machine.specs.Step.{stepOf, stepEid}
-use Rattle.runs.specs.Run.{Outcome, outcome, ends, runFrom}
+use Rattle.steps.specs.Run.{Outcome, outcome, ends, runFrom}
 use Rattle.isolation.specs.Trace.{traceFrom}
 
 -- the last machine of a trace from m on

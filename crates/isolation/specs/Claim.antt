@@ -7,7 +7,7 @@ use Rattle.memory.specs.Map.{byteAt}
 use Rattle.processor.specs.declared.Processor.{Processor}
 use Rattle.processor.specs.Exception.{entered}
 use Rattle.instructions.specs.declared.Action.the-variants.{Exception}
-use Rattle.machine.specs.State.{Machine, Representable}
+use Rattle.state.specs.Machine.{Machine, Representable}
 use Rattle.machine.specs.Step.{look, stepOf}
 use Rattle.isolation.specs.Frames.{frameAt, Reached, ReachedWritable, SameIn}
 use Rattle.words.specs.Lists.{Every, Pairwise}

@@ -5,10 +5,10 @@ use Prim.Native.Nat.{ℕ, zero, suc}
 use lib.Dec.{eqb}
 use Rattle.words.specs.Logic.{both}
 use Rattle.status.specs.Psw.{userMode}
-use Rattle.machine.specs.State.{Machine}
+use Rattle.state.specs.Machine.{Machine}
 use Rattle.machine.specs.Step.{stepOf, stepEid}
 use Rattle.refusal.specs.Refusal.{runRefusal}
-use Rattle.runs.specs.Run.{Answer, Outcome, ends, runOf}
+use Rattle.steps.specs.Run.{Answer, Outcome, ends, runOf}
 use Rattle.recordlayout.specs.Record.{recordOf}
 use Rattle.runcalls.specs.Runs.{Called, machineIn, callRefusal, callOf}
 

@@ -1,4 +1,3 @@
 -- The laws of `kept`, in the order to read them.
 pub mod KeptLaws
-pub mod Loop
 pub mod OnlyLaws

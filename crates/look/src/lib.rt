@@ -4,7 +4,7 @@ use processor::Words;
 use reads::Read;
 ghost use mathlib.Core.Path.{_≡_};
 ghost use Rattle.memory.specs.Map.{memory};
-ghost use Rattle.translation.specs.Found.{Serves};
+ghost use Rattle.found.specs.Found.{Serves};
 ghost use Rattle.instructions.specs.Operands.{surroundings};
 ghost use Rattle.look.specs.Look.{lookFrom};
 
@@ -58,6 +58,6 @@ pub fn look<'a>(
 ) -> Action
     ensures { λ r. ⌜ r ≡ lookFrom (surroundings psw (now (highs .entry)) (now (lows .entry)) (memory (now (ram .entry)) (now (rom .entry)) (now (belt .entry)))) (now (registers .entry)) pc lines ⌝ }
 {
-    let i = translation::index_of(highs, pc);
+    let i = found::index_of(highs, pc);
     look_at(registers, pc, psw, highs, lows, i, ram, rom, belt, lines)
 }

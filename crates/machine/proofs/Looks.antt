@@ -4,7 +4,7 @@ use Prim.Native.Nat.{ℕ}
 use Rattle.memory.specs.Map.{Memory}
 use Rattle.processor.specs.declared.Processor.{Processor}
 use Rattle.instructions.specs.declared.Action.{Action}
-use Rattle.machine.specs.State.{Machine}
+use Rattle.state.specs.Machine.{Machine}
 use Rattle.machine.specs.Step.{look, done, eidOf, stepOf, stepEid}
 
 module _ (m : Machine) (lines : ℕ) (a : Action) (e : look m lines ≡ a) where

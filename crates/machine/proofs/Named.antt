@@ -20,7 +20,7 @@ use Rattle.instructions.specs.declared.Action.the-variants.{Exception}
 use Rattle.reads.specs.declared.Read.{Read}
 use Rattle.reads.specs.declared.Read.the-variants.{Value, Fault}
 use Rattle.decode.proofs.Named.{Named, NamedRead, read-named, executed-named}
-use Rattle.machine.specs.State.{Machine}
+use Rattle.state.specs.Machine.{Machine}
 use Rattle.look.specs.Look.{operandsOf, decoded, lookFrom}
 use Rattle.machine.specs.Step.{surroundingsOf, look, stepOf, stepEid}
 use Rattle.machine.proofs.StepLaws.{fault-enters, fault-named}

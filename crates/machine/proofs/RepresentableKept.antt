@@ -20,7 +20,7 @@ use Rattle.status.proofs.PswLaws.{pushed-lt, popped-lt}
 use Rattle.kept.proofs.KeptLaws.{kept-psw-lt, kept-index-lt, kept-high-lt, kept-low-lt}
 use Rattle.exceptions.proofs.EntryLaws.{service-lt}
 use Rattle.lookup.proofs.Sizes.{replacement-lt, found-lt}
-use Rattle.machine.specs.State.{Machine, machine, Words32, Bytes, Representable}
+use Rattle.state.specs.Machine.{Machine, machine, Words32, Bytes, Representable}
 
 -- ---- numbers and arrays
 

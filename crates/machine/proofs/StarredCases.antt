@@ -29,7 +29,7 @@ use Rattle.reads.specs.Reads.{readFrom}
 use Rattle.transfer.specs.Transfer.{load, storeTo, transfers}
 use Rattle.system.specs.System.{privileged, traps, systems}
 use Rattle.decode.specs.Table.{meanings, executed}
-use Rattle.machine.specs.State.{Machine, machine}
+use Rattle.state.specs.Machine.{Machine, machine}
 use Rattle.look.specs.Look.{lookFrom}
 use Rattle.actions.specs.Actions.{systemDone, storeWidth}
 use Rattle.machine.specs.Step.{look, stepOf, stepEid}

@@ -9,7 +9,7 @@ use Rattle.processor.proofs.FitLaws.{Fit}
 use Rattle.processor.proofs.FitKept.{entered-fit, returned-fit, written-fit, jumped-fit, special-fit, indexed-fit, random-fit, read-fit, searched-fit}
 use Rattle.instructions.specs.declared.Action.{Action}
 use Rattle.instructions.specs.declared.Action.the-variants.{Write, Store, System, Exception}
-use Rattle.machine.specs.State.{Machine}
+use Rattle.state.specs.Machine.{Machine}
 use Rattle.actions.specs.Actions.{systemDone}
 use Rattle.machine.specs.Step.{look, processorAfter, stepOf}
 

@@ -6,7 +6,7 @@ use Rattle.processor.specs.Exception.{entered}
 use Rattle.interrupt.specs.Interrupt.{channel}
 use Rattle.reads.specs.Reads.{readFrom}
 use Rattle.instructions.specs.declared.Action.the-variants.{Exception}
-use Rattle.machine.specs.State.{Machine}
+use Rattle.state.specs.Machine.{Machine}
 use Rattle.look.specs.Look.{decoded, lookFrom}
 use Rattle.machine.specs.Step.{surroundingsOf, look, stepOf, stepEid}
 use Rattle.machine.proofs.Looks.{step-done, step-eid}

@@ -20,7 +20,7 @@ use Rattle.instructions.specs.declared.Action.the-variants.{Write, Store, Syste
 use Rattle.reads.specs.declared.Read.{Read}
 use Rattle.reads.specs.declared.Read.the-variants.{Value, Fault}
 use Rattle.decode.proofs.Small.{Small, Words, executed-small}
-use Rattle.machine.specs.State.{Machine, Bytes, Representable}
+use Rattle.state.specs.Machine.{Machine, Bytes, Representable}
 use Rattle.look.specs.Look.{operandsOf, decoded, lookFrom}
 use Rattle.actions.specs.Actions.{systemDone, storeWidth}
 use Rattle.machine.specs.Step.{surroundingsOf, look, done, stepOf}

@@ -1,3 +1,2 @@
--- The definitions of `machine`, in the order to read them.
-pub mod State
+-- The definitions of `machine`.
 pub mod Step

@@ -11,7 +11,7 @@ use Rattle.instructions.specs.declared.Action.{Action}
 use Rattle.instructions.specs.declared.Action.the-variants.{Write, Store, System, Exception}
 use Rattle.look.specs.Look.{lookFrom}
 use Rattle.actions.specs.Actions.{systemDone, storeWidth}
-use Rattle.machine.specs.State.{Machine}
+use Rattle.state.specs.Machine.{Machine}
 
 -- ---- the look
 

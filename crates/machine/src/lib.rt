@@ -2,7 +2,7 @@
 use instructions::Action;
 use processor::Processor;
 ghost use mathlib.Core.Path.{_≡_};
-ghost use Rattle.machine.specs.State.{machine};
+ghost use Rattle.state.specs.Machine.{machine};
 ghost use Rattle.machine.specs.Step.{stepOf, stepEid};
 
 // The processor after a step, and the exception that it accepted, or 32.

@@ -8,7 +8,7 @@ use borrow.Author.Tests.{eqb-true}
 use Rattle.slices.specs.Same.{same}
 use Rattle.slices.proofs.SameLaws.{both-hold, same-equal}
 use Rattle.processor.specs.declared.Processor.{Processor}
-use Rattle.machine.specs.State.{Machine}
+use Rattle.state.specs.Machine.{Machine}
 use Rattle.outcomes.specs.Unchanged.{sameSpecial, sameTlb, sameProcessor, sameMachine}
 
 -- a processor by its items

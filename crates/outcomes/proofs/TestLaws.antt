@@ -7,8 +7,8 @@ use lib.ListN.{getD}
 use Rattle.words.specs.Logic.{both}
 use Rattle.slices.specs.Same.{same}
 use Rattle.processor.specs.declared.Processor.{Processor}
-use Rattle.machine.specs.State.{Machine}
-use Rattle.runs.specs.Run.{Outcome, answer, outcome}
+use Rattle.state.specs.Machine.{Machine}
+use Rattle.steps.specs.Run.{Outcome, answer, outcome}
 use Rattle.outcomes.specs.Unchanged.{sameProcessor, sameMachine}
 
 pub fails : {t : Bool} (u : Bool) → t ≡ false → false ≡ both t u

@@ -6,7 +6,7 @@ use lib.Dec.{eqb}
 use Rattle.words.specs.Logic.{both}
 use Rattle.slices.specs.Same.{same}
 use Rattle.processor.specs.declared.Processor.{Processor}
-use Rattle.machine.specs.State.{Machine}
+use Rattle.state.specs.Machine.{Machine}
 
 unfoldable pub sameSpecial : Processor → Processor → Bool
 sameSpecial p q =

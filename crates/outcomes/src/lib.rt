@@ -2,12 +2,12 @@
 mod unchanged;
 
 use processor::Processor;
-use runs::Ran;
+use steps::Ran;
 ghost use mathlib.Core.Path.{_≡_};
 ghost use lib.ListN.{getD};
 ghost use Rattle.processor.specs.State.{atReset};
-ghost use Rattle.machine.specs.State.{machine};
-ghost use Rattle.runs.specs.Run.{answer, outcome, runOf};
+ghost use Rattle.state.specs.Machine.{machine};
+ghost use Rattle.steps.specs.Run.{answer, outcome, runOf};
 ghost use Rattle.record.specs.Calls.{readRefusal, processorRead, writeRefusal, bufferAfter};
 ghost use Rattle.slices.specs.Same.{same};
 ghost use Rattle.outcomes.specs.Unchanged.{sameProcessor, sameMachine};

@@ -4,7 +4,6 @@ ghost use mathlib.Core.Path.{_≡_};
 ghost use Rattle.processor.specs.State.{atReset};
 
 mod exception;
-mod fitness;
 mod register;
 mod tlb;
 
@@ -47,7 +46,7 @@ impl Processor {
 
     pub const PRIVILEGED_ADDRESS: u32 = exceptions::PRIVILEGED_ADDRESS;
 
-    pub const NO_EXCEPTION: u32 = 32;
+    pub const NO_EXCEPTION: u32 = exceptions::NO_EXCEPTION;
 
     // Service addresses (manual, 2.8.2): the base by V, and the offsets from it.
     pub const ROM_SERVICE: u32 = exceptions::ROM_SERVICE;

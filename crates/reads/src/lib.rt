@@ -6,7 +6,7 @@ use translation::Translation;
 use translation::Width;
 ghost use mathlib.Core.Path.{_≡_};
 ghost use Rattle.memory.specs.Map.{memory};
-ghost use Rattle.translation.specs.Found.{Serves};
+ghost use Rattle.found.specs.Found.{Serves};
 ghost use Rattle.instructions.specs.Operands.{surroundings};
 ghost use Rattle.reads.specs.Reads.{readFrom};
 

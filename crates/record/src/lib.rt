@@ -41,7 +41,7 @@ pub fn read(bytes: &[u8]) -> Reading
         return refused(WRONG_KIND);
     }
     let p = recordlayout::get(bytes);
-    if !p.is_fit() {
+    if !fitness::is_fit(p) {
         return refused(UNFIT);
     }
     Reading {
@@ -58,7 +58,7 @@ pub fn write(p: Processor, buffer: &mut [u8]) -> u32
     if buffer.len() != LENGTH {
         return WRONG_LENGTH;
     }
-    if !p.is_fit() {
+    if !fitness::is_fit(p) {
         return UNFIT;
     }
     recordlayout::put(p, buffer);

@@ -6,7 +6,7 @@ use lib.ListN.{length}
 use Rattle.words.specs.Logic.{both}
 use Rattle.memory.specs.Map.{Memory}
 use Rattle.processor.specs.State.{fit}
-use Rattle.machine.specs.State.{Machine}
+use Rattle.state.specs.Machine.{Machine}
 
 -- 4,096 bytes up to a limit, a multiple of 4,096
 unfoldable pub pagesUpTo : ℕ → ℕ → Bool

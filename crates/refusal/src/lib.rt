@@ -72,7 +72,7 @@ pub fn of_run(p: Processor, ram: usize, rom: usize, belt: usize, wanted: u64) ->
     if lengths != 0 {
         return lengths;
     }
-    if !p.is_fit() {
+    if !fitness::is_fit(p) {
         return UNFIT_MACHINE;
     }
     of_steps(wanted)

@@ -10,7 +10,7 @@ use borrow.Author.Tests.{eqb-true, eq-eqb}
 use Rattle.words.specs.Logic.{both}
 use Rattle.words.proofs.Cases.{chosen, below-or-not}
 use Rattle.processor.specs.State.{fit}
-use Rattle.machine.specs.State.{Machine}
+use Rattle.state.specs.Machine.{Machine}
 use Rattle.recordlayout.specs.Record.{recordOf}
 use Rattle.tally.specs.declared.Counts.{Counts}
 use Rattle.slices.specs.Same.{same}

@@ -6,7 +6,7 @@ use Prim.Native.Nat.{ℕ, _/_}
 use borrow.Author.Tests.{eq-eqb, ne-eqb}
 use Rattle.reads.specs.Reads.{readFrom}
 use Rattle.reads.specs.declared.Read.the-variants.{Value, Fault}
-use Rattle.machine.specs.State.{Machine}
+use Rattle.state.specs.Machine.{Machine}
 use Rattle.machine.specs.Step.{stepOf, stepEid, surroundingsOf}
 use Rattle.tally.specs.Tally.{raisedAt}
 use Rattle.expected.specs.Expected.{Expected, agrees, stepAgrees}

@@ -9,7 +9,7 @@ use Rattle.endian.specs.BigEndian.{readAt}
 use Rattle.reads.specs.Reads.{readFrom}
 use Rattle.reads.specs.declared.Read.{Read}
 use Rattle.reads.specs.declared.Read.the-variants.{Value, Fault}
-use Rattle.machine.specs.State.{Machine}
+use Rattle.state.specs.Machine.{Machine}
 use Rattle.machine.specs.Step.{stepOf, stepEid, surroundingsOf}
 use Rattle.record.specs.Calls.{readRefusal}
 use Rattle.tally.specs.Tally.{raisedAt, caseBegun, stepMade, endRead, judged}

@@ -7,7 +7,7 @@ ghost use mathlib.Core.Bool.{false, cond};
 ghost use mathlib.Core.Path.{_≡_};
 ghost use Prim.Native.Nat.{_≤_};
 ghost use lib.Dec.{eqb};
-ghost use Rattle.machine.specs.State.{machine};
+ghost use Rattle.state.specs.Machine.{machine};
 ghost use Rattle.tally.specs.Tally.{caseBegun, judged};
 ghost use Rattle.expected.specs.Expected.{expected, clear, patchFits, patched};
 ghost use Rattle.replay.specs.Replay.{clearKind, startKind, endKind, tallies, replay, commanded, replayed, finished};

@@ -5,7 +5,7 @@ use reads::Read;
 use record::Reading;
 ghost use mathlib.Core.Path.{_≡_};
 ghost use Rattle.memory.specs.Map.{memory};
-ghost use Rattle.machine.specs.State.{machine};
+ghost use Rattle.state.specs.Machine.{machine};
 ghost use Rattle.machine.specs.Step.{stepOf};
 ghost use Rattle.record.specs.Calls.{readRefusal};
 ghost use Rattle.expected.specs.Expected.{expected, startedIn, stepAgrees};

@@ -14,11 +14,11 @@ use Rattle.recordlayout.specs.Record.{recordOf, processorOf}
 use Rattle.record.specs.Calls.{readRefusal, processorRead}
 use Rattle.record.proofs.Answers.{accepted-means, read-accepted}
 use Rattle.record.proofs.ReadWritten.{read-written}
-use Rattle.machine.specs.State.{Machine}
+use Rattle.state.specs.Machine.{Machine}
 use Rattle.refusal.specs.Refusal.{check, ramAccepted, romAccepted, beltAccepted, lengthsChecked, memoryChecked, stepsChecked}
-use Rattle.runs.specs.Run.{answer, Outcome, runFrom}
+use Rattle.steps.specs.Run.{answer, Outcome, runFrom}
 use Rattle.refusal.proofs.Checks.{lengths-refused, lengths-passed}
-use Rattle.runs.proofs.RunFit.{run-fit}
+use Rattle.steps.proofs.RunFit.{run-fit}
 use Rattle.recordcalls.specs.Records.{recordChecked}
 use Rattle.runcalls.specs.Runs.{callRefusal, Called, called, machineIn, recorded, callOf}
 

@@ -5,9 +5,9 @@ use Prim.Native.Nat.{ℕ}
 use lib.Dec.{eqb}
 use Rattle.memory.specs.Map.{Memory}
 use Rattle.recordlayout.specs.Record.{recordOf, processorOf}
-use Rattle.machine.specs.State.{Machine}
+use Rattle.state.specs.Machine.{Machine}
 use Rattle.refusal.specs.Refusal.{memoryChecked, stepsChecked}
-use Rattle.runs.specs.Run.{Answer, answer, Outcome, runFrom}
+use Rattle.steps.specs.Run.{Answer, answer, Outcome, runFrom}
 use Rattle.recordcalls.specs.Records.{recordChecked}
 
 -- causes 1 to 7, in the table's order; 0 where none holds

@@ -46,7 +46,7 @@ pub fn call(
     if steps != 0 {
         return refused(steps);
     }
-    let ran = runs::advance(
+    let ran = steps::advance(
         reading.processor,
         ram,
         rom,

@@ -6,7 +6,7 @@ use native.Mathlib.Omega.{arith}
 use lib.Dec.{leb}
 use lib.ListN.{length}
 use Rattle.processor.specs.State.{fit}
-use Rattle.machine.specs.State.{Machine}
+use Rattle.state.specs.Machine.{Machine}
 use Rattle.refusal.specs.Refusal.{check, ramAccepted, romAccepted, beltAccepted, lengthsChecked, stepsChecked, runRefusal}
 
 -- the five checks, by their outcomes

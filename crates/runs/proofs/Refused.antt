@@ -7,9 +7,9 @@ use lib.Dec.{leb}
 use lib.ListN.{length}
 use borrow.Author.Tests.{leb-true, eq-eqb, ne-eqb}
 use Rattle.processor.specs.State.{fit}
-use Rattle.machine.specs.State.{Machine}
+use Rattle.state.specs.Machine.{Machine}
 use Rattle.refusal.specs.Refusal.{check, ramAccepted, romAccepted, beltAccepted, lengthsChecked, memoryChecked, stepsChecked, runRefusal}
-use Rattle.runs.specs.Run.{outcome, runFrom, runOf}
+use Rattle.steps.specs.Run.{outcome, runFrom, runOf}
 
 module _ (kind : Bool) (m : Machine) (wanted lines r : ℕ)
     (e : r ≡ memoryChecked (m .memory) (check (fit (m .processor)) 6 (stepsChecked wanted))) where

@@ -7,9 +7,9 @@ use native.Mathlib.Nat.{add-zero, add-suc, suc-add}
 use native.Mathlib.Omega.{arith}
 use lib.Dec.{ltb}
 use borrow.Author.Tests.{ltb-true, ltb-false}
-use Rattle.machine.specs.State.{Machine}
+use Rattle.state.specs.Machine.{Machine}
 use Rattle.machine.specs.Step.{stepOf, stepEid}
-use Rattle.runs.specs.Run.{plain, toException, Outcome, outcome, ends, runFrom, stateAfter}
+use Rattle.steps.specs.Run.{plain, toException, Outcome, outcome, ends, runFrom, stateAfter}
 
 pub plain-makes-the-steps : (n made : ℕ) (m : Machine) (lines : ℕ) → runFrom plain n made m lines ≡ outcome (stateAfter n m lines) 0 (made + n) 32
 unfolding runFrom stateAfter ends

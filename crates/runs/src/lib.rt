@@ -1,88 +1,9 @@
 // The two kinds of run (document 01, "Runs and views").
-use instructions::Action;
 use processor::Processor;
-use translation::found;
+use steps::Ran;
 ghost use mathlib.Core.Path.{_≡_};
-ghost use Rattle.machine.specs.State.{machine};
-ghost use Rattle.runs.specs.Run.{plain, toException, outcome, runFrom, runOf};
-
-// The processor after a run; the refusal or 0, the steps made, and the exception that ended it, or 32.
-pub struct Ran {
-    pub processor: Processor,
-    pub refusal: u32,
-    pub steps: u32,
-    pub eid: u32,
-}
-
-// The steps of an accepted run. `kind` says whether an accepted exception ends it.
-pub fn advance(
-    p: Processor,
-    ram: &mut [u8],
-    rom: &[u8],
-    belt: &mut [u8],
-    wanted: u32,
-    lines: u32,
-    kind: bool,
-) -> Ran
-    ensures { λ r. ⌜ outcome (machine (r .processor) (now (ram .exit)) (now (rom .entry)) (now (belt .exit))) (r .refusal) (r .steps) (r .eid) ≡ runFrom kind wanted 0 (machine p (now (ram .entry)) (now (rom .entry)) (now (belt .entry))) lines ⌝ }
-{
-    let mut state = p;
-    // Beside the state, and the same as in it: a read of `state.registers` would wait for the copy that each write makes.
-    let mut registers = p.registers;
-    let mut last = found::first(&p.tlbhigh);
-    let mut steps = 0;
-    let mut eid = Processor::NO_EXCEPTION;
-    while steps < wanted {
-        last = found::follow(&state.tlbhigh, last, state.pc);
-        let action = look::look_at(
-            &registers,
-            state.pc,
-            state.psw,
-            &state.tlbhigh,
-            &state.tlblow,
-            last.index,
-            &ram[..],
-            rom,
-            &belt[..],
-            lines,
-        );
-        steps += 1;
-        match action {
-            Action::Write(n, v, next) => {
-                let i = (n % 32) as usize;
-                if i == 0 {
-                    state = state.jump(next);
-                } else {
-                    state = state.write(n, v, next);
-                    registers[i] = v;
-                }
-            }
-            Action::Store(width, physical, v) => {
-                actions::store(ram, rom, belt, width, physical, v);
-                state = state.jump(sums::add(state.pc, 4));
-            }
-            Action::System(opcode, z, v) => {
-                state = actions::system(state, opcode, z, v);
-                registers = state.registers;
-                last = found::first(&state.tlbhigh);
-            }
-            Action::Exception(number, address, _) => {
-                state = state.enter(number, address);
-                registers = state.registers;
-                if kind {
-                    eid = number;
-                    break;
-                }
-            }
-        }
-    }
-    Ran {
-        processor: state,
-        refusal: 0,
-        steps: steps,
-        eid: eid,
-    }
-}
+ghost use Rattle.state.specs.Machine.{machine};
+ghost use Rattle.steps.specs.Run.{plain, toException, outcome, runOf};
 
 // A run of either kind, refused or made.
 fn checked(
@@ -105,7 +26,7 @@ fn checked(
             eid: Processor::NO_EXCEPTION,
         };
     }
-    advance(p, ram, rom, belt, wanted as u32, lines as u32, kind)
+    steps::advance(p, ram, rom, belt, wanted as u32, lines as u32, kind)
 }
 
 // Makes exactly the wanted steps.

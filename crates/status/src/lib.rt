@@ -1,6 +1,12 @@
 // The processor status word (manual, 2.7).
 ghost use mathlib.Core.Path.{_≡_};
-ghost use Rattle.status.specs.Psw.{pushed, popped};
+ghost use Rattle.status.specs.Psw.{userMode, pushed, popped};
+
+pub fn is_user_mode(psw: u32) -> bool
+    ensures { λ r. ⌜ r ≡ userMode psw ⌝ }
+{
+    psw / 0x400_0000 % 2 == 1
+}
 
 // 0 pushed on both stacks, and the identifier set: each pair of bits moves down by one.
 pub fn push(psw: u32, eid: u32) -> u32

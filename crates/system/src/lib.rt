@@ -9,7 +9,7 @@ ghost use Rattle.system.specs.System.{privileged, illegalSystem, traps, 
 fn privileged(psw: u32, opcode: u32, number: u32, value: u32) -> Action
     ensures { λ r. ⌜ r ≡ privileged psw (Action.System opcode number value) ⌝ }
 {
-    if translation::is_user_mode(psw) {
+    if status::is_user_mode(psw) {
         return Action::Exception(Processor::PRIVILEGED_INSTRUCTION, 0, 0);
     }
     Action::System(opcode, number, value)

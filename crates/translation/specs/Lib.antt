@@ -1,3 +1,2 @@
 -- The definitions of `translation`.
 pub mod Translation
-pub mod Found

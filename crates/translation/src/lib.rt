@@ -1,18 +1,13 @@
 // The translation of a virtual address to a physical one, or its fault (document 01, "One step"; manual, 2.9).
-use processor::Processor;
-use processor::Words;
+use lookup::Words;
 ghost use mathlib.Core.Path.{_≡_};
 ghost use mathlib.Core.Bool.{not, cond};
 ghost use Prim.Native.Nat.{_%_};
 ghost use lib.Dec.{leb, ltb, eqb};
 ghost use lib.ListN.{getD};
-ghost use Rattle.lookup.specs.Lookup.{pageOf, lookup};
-ghost use Rattle.status.specs.Psw.{userMode};
 ghost use Rattle.translation.specs.Translation.{bytesOf, through, forbidden, translated, translationEid};
-ghost use Rattle.translation.specs.Found.{Serves};
+ghost use Rattle.found.specs.Found.{Serves};
 ghost use Rattle.translation.specs.declared.Translation.the-variants.{TlbMiss};
-
-pub mod found;
 
 // The size of an access.
 pub enum Width {
@@ -28,12 +23,6 @@ pub enum Translation {
     TlbInvalid,
     IllegalAddress,
     PrivilegedAddress,
-}
-
-pub fn is_user_mode(psw: u32) -> bool
-    ensures { λ r. ⌜ r ≡ userMode psw ⌝ }
-{
-    psw / 0x400_0000 % 2 == 1
 }
 
 fn is_misaligned(address: u32, width: Width) -> bool
@@ -52,7 +41,7 @@ fn is_forbidden(psw: u32, address: u32) -> bool
     if address < 0x8000_0000 {
         return false;
     }
-    is_user_mode(psw)
+    status::is_user_mode(psw)
 }
 
 fn through(low: u32, store: bool, address: u32) -> Translation
@@ -78,16 +67,6 @@ fn entry(lows: &Words, i: usize, store: bool, address: u32) -> Translation
         return through(lows[i], store, address);
     }
     Translation::TlbMiss
-}
-
-// The index of an address's page; a direct-mapped address has none.
-pub fn index_of(highs: &Words, address: u32) -> usize
-    ensures { λ r. ⌜ r ≡ cond (leb 0xC0000000 address) 32 (lookup (now (highs .entry)) (pageOf address)) ⌝ }
-{
-    if 0xC000_0000 <= address {
-        return 32;
-    }
-    lookup::find(highs, address / 0x1000)
 }
 
 // With the index of the address's page at hand: `highs` is in the contract alone.
@@ -125,7 +104,7 @@ pub fn translate<'a>(
 ) -> Translation
     ensures { λ r. ⌜ r ≡ translated psw (now (highs .entry)) (now (lows .entry)) (bytesOf width) store address ⌝ }
 {
-    let i = index_of(highs, address);
+    let i = found::index_of(highs, address);
     translate_at(psw, highs, lows, i, width, store, address)
 }
 
@@ -134,11 +113,11 @@ pub fn eid_of(answer: Translation) -> u32
     ensures { λ r. ⌜ r ≡ translationEid answer ⌝ }
 {
     match answer {
-        Translation::Physical(_) => Processor::NO_EXCEPTION,
-        Translation::TlbMiss => Processor::TLB_MISS,
-        Translation::TlbWrite => Processor::TLB_WRITE,
-        Translation::TlbInvalid => Processor::TLB_INVALID,
-        Translation::IllegalAddress => Processor::ILLEGAL_ADDRESS,
-        Translation::PrivilegedAddress => Processor::PRIVILEGED_ADDRESS,
+        Translation::Physical(_) => exceptions::NO_EXCEPTION,
+        Translation::TlbMiss => exceptions::TLB_MISS,
+        Translation::TlbWrite => exceptions::TLB_WRITE,
+        Translation::TlbInvalid => exceptions::TLB_INVALID,
+        Translation::IllegalAddress => exceptions::ILLEGAL_ADDRESS,
+        Translation::PrivilegedAddress => exceptions::PRIVILEGED_ADDRESS,
     }
 }

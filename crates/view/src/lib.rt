@@ -46,7 +46,7 @@ pub fn locate(ram: &[u8], p: Processor, page: u64) -> View
     if !refusal::ram_accepted(ram.len()) {
         return refused(refusal::RAM_LENGTH);
     }
-    if !p.is_fit() {
+    if !fitness::is_fit(p) {
         return refused(refusal::UNFIT_MACHINE);
     }
     if 0xF_FFFF < page {

@@ -2,7 +2,7 @@
 use mathlib.Core.Path.{ap, sym, _∙_}
 use denote.Ref.{now}
 use borrow.Author.Needs.{needs}
-use Rattle.machine.specs.State.{machine}
+use Rattle.state.specs.Machine.{machine}
 use Rattle.machine.specs.Step.{look}
 use Rattle.machine.proofs.Looks.{joined}
 use Rattle.machine.proofs.Looks.{step-done, step-eid}

@@ -2,8 +2,8 @@
 use mathlib.Core.Path.{ap, sym, _∙_}
 use mathlib.Core.Bool.{Bool}
 use denote.Ref.{now}
-use Rattle.machine.specs.State.{machine}
-use Rattle.runs.specs.Run.{runOf}
+use Rattle.state.specs.Machine.{machine}
+use Rattle.steps.specs.Run.{runOf}
 use borrow.Author.Needs.{needs}
 use Rattle.outcomes.proofs.run_of_kind.Statement.{statement}
 use Rattle.outcomes.proofs.run_of_kind.Tie as tie

@@ -5,7 +5,7 @@ use native.Mathlib.Omega.{arith}
 use lib.ListN.{length}
 use denote.Ref.{now}
 use borrow.Author.Needs.{needs}
-use Rattle.machine.specs.State.{machine}
+use Rattle.state.specs.Machine.{machine}
 use Rattle.expected.specs.Expected.{expected}
 use Rattle.replay.specs.Replay.{tallies, replay, replayedFrom}
 use Rattle.replay.proofs.CommandLaws.{in-part, in-part-word, replay-more, replay-end, replay-start, part-judged}

@@ -5,7 +5,7 @@ use Prim.Native.Nat.{_≤_}
 use native.Mathlib.Omega.{arith}
 use denote.Ref.{now}
 use borrow.Author.Needs.{needs}
-use Rattle.machine.specs.State.{machine}
+use Rattle.state.specs.Machine.{machine}
 use Rattle.runs.proofs.Refused.{run-refused, run-accepted, steps-within}
 use Rattle.runs.proofs.checked.Statement.{statement}
 use Rattle.runs.proofs.checked.Tie as tie

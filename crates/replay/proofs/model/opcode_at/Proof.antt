@@ -1,7 +1,7 @@
 -- `replay::model::opcode_at` meets its contract, by the laws of StepLaws.
 use mathlib.Core.Path.{sym, _∙_}
 use denote.Ref.{now}
-use Rattle.machine.specs.State.{machine}
+use Rattle.state.specs.Machine.{machine}
 use Rattle.replay.proofs.StepLaws.{opcode-fetched, opcode-faulted}
 use borrow.Author.Needs.{needs}
 use Rattle.replay.proofs.model.opcode_at.Statement.{statement}

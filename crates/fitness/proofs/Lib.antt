@@ -1,0 +1,2 @@
+-- The laws of `fitness`.
+pub mod Loop

@@ -1,0 +1,2 @@
+-- The definitions of `found`.
+pub mod Found

@@ -1,2 +1,0 @@
--- The definitions of `runs`.
-pub mod Run

@@ -1,0 +1,2 @@
+-- The definitions of `state`.
+pub mod Machine

@@ -1,0 +1,83 @@
+-- One turn of the loop, by the action that the look named, and what stands beside the state: a copy of its registers, and a TLB entry.
+use mathlib.Core.Path.{_≡_, ap, sym, subst, _∙_}
+use mathlib.Core.Bool.{Bool, true, false, cond}
+use mathlib.Core.List.{List}
+use Prim.Native.Nat.{ℕ, _+_, _-_, _%_, _<_}
+use native.Mathlib.Omega.{arith}
+use lib.Dec.{leb}
+use lib.ListN.{set}
+use borrow.Author.Tests.{lt-leb, eq-eqb, ne-eqb}
+use Rattle.memory.specs.Map.{Memory}
+use Rattle.found.specs.Found.{Serves}
+use Rattle.instructions.specs.Operands.{surroundings}
+use Rattle.instructions.specs.declared.Action.{Action}
+use Rattle.instructions.specs.declared.Action.the-variants.{Exception}
+use Rattle.processor.specs.declared.Processor.{Processor}
+use Rattle.processor.specs.Exception.{entered}
+use Rattle.processor.specs.Register.{put, written, jumped}
+use Rattle.lookup.specs.Lookup.{pageOf, lookup}
+use Rattle.state.specs.Machine.{Machine}
+use Rattle.look.specs.Look.{lookFrom}
+use Rattle.machine.specs.Step.{look, done, eidOf}
+use Rattle.machine.proofs.Looks.{step-done, step-eid}
+use Rattle.machine.proofs.Named.{named-below}
+use Rattle.steps.specs.Run.{outcome, ends, runFrom}
+use Rattle.steps.proofs.Loop.{exception-ends, run-more, run-stop}
+
+-- ---- the processor
+
+-- a write to register 0 is a jump
+pub zero-written : (p : Processor) (n v next : ℕ) → n % 32 ≡ 0 → jumped p next ≡ written p n v next
+unfolding written jumped put
+zero-written p n v next e = simp (eq-eqb (n % 32) 0 e)
+
+-- the copy of the registers after a jump and after a write
+pub jump-kept : (registers : List ℕ) (p q : Processor) (next : ℕ) → registers ≡ p .registers → q ≡ jumped p next → registers ≡ q .registers
+unfolding jumped
+jump-kept registers p q next same e = same ∙ sym (ap (λ (r : Processor). r .registers) e)
+
+pub write-kept : (registers : List ℕ) (p q : Processor) (n v next : ℕ) → registers ≡ p .registers → (n % 32 ≡ 0 → ⊥) → q ≡ written p n v next
+    → set registers (n % 32) v ≡ q .registers
+unfolding written put
+write-kept registers p q n v next same other e =
+    ap (λ (l : List ℕ). set l (n % 32) v) same ∙ sym (ap (λ (r : Processor). r .registers) e ∙ simp (ne-eqb (n % 32) 0 other))
+
+-- the entry found last after a jump, a write and exception entry: none of them changes the TLB
+module _ (i page : ℕ) (p q : Processor) (found : i ≡ lookup (p .tlbhigh) page) where
+  pub jump-found : (next : ℕ) → q ≡ jumped p next → i ≡ lookup (q .tlbhigh) page
+  unfolding jumped
+  jump-found next e = found ∙ sym (ap (λ (r : Processor). lookup (r .tlbhigh) page) e)
+
+  pub write-found : (n v next : ℕ) → q ≡ written p n v next → i ≡ lookup (q .tlbhigh) page
+  unfolding written
+  write-found n v next e = found ∙ sym (ap (λ (r : Processor). lookup (r .tlbhigh) page) e)
+
+  pub enter-found : (eid address : ℕ) → q ≡ entered p eid address → i ≡ lookup (q .tlbhigh) page
+  unfolding entered
+  enter-found eid address e = found ∙ sym (ap (λ (r : Processor). lookup (r .tlbhigh) page) e)
+
+-- the entry that was followed to serves the address
+pub followed-serves : (highs : List ℕ) (last page i address : ℕ) → page ≡ cond (leb 0xC0000000 address) last (pageOf address)
+    → i ≡ lookup highs page → Serves highs i address
+followed-serves highs last page i address e f = λ below. f ∙ ap (lookup highs) (e ∙ simp (lt-leb 0xC0000000 address below))
+
+-- ---- the run
+
+module _ (kind : Bool) (wanted made : ℕ) (p : Processor) (memory : Memory) (lines : ℕ) (registers : List ℕ) (a : Action) where
+  module _ (same : registers ≡ p .registers) (e : a ≡ lookFrom (surroundings (p .psw) (p .tlbhigh) (p .tlblow) memory) registers (p .pc) lines)
+      (more : made < wanted) (n : Machine) (after : n ≡ done (record { processor = p; memory = memory }) a) where
+    looked : look (record { processor = p; memory = memory }) lines ≡ a
+    unfolding look
+    looked = sym (e ∙ ap (λ (l : List ℕ). lookFrom (surroundings (p .psw) (p .tlbhigh) (p .tlblow) memory) l (p .pc) lines) same)
+
+    pub goes-on : ends kind (eidOf a) ≡ false
+        → runFrom kind (wanted - made) made (record { processor = p; memory = memory }) lines ≡ runFrom kind (wanted - (made + 1)) (made + 1) n lines
+    goes-on = run-more kind wanted made _ lines n (eidOf a) (after ∙ sym (step-done _ lines a looked)) (sym (step-eid _ lines a looked)) more
+
+    -- an exception that was named has a number below 32
+    pub stops : (eid address unused : ℕ) → a ≡ Exception eid address unused → kind ≡ true
+        → runFrom kind (wanted - made) made (record { processor = p; memory = memory }) lines ≡ outcome n 0 (made + 1) (eidOf a)
+    stops eid address unused f on =
+        let below : eid < 32 = omega (arith, named-below _ lines eid address unused (looked ∙ f)) in
+        run-stop kind wanted made _ lines n (eidOf a) (after ∙ sym (step-done _ lines a looked)) (sym (step-eid _ lines a looked)) more
+        (exception-ends kind (eidOf a) on (subst (λ (b : Action). eidOf b < 32) (sym f) below))

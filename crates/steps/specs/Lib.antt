@@ -1,0 +1,2 @@
+-- The definitions of `steps`.
+pub mod Run
