@@ -98,6 +98,44 @@ module _ (s : List ℕ) (i : ℕ) where
 pub replay-start : (s : List ℕ) (n : ℕ) (r : Replay) → replayedFrom n s 0 r ≡ replayedFrom (n - 0) s (0 * 8) r
 replay-start s n r = ap (λ (k : ℕ). replayedFrom k s 0 r) (omega arith)
 
+-- the lent slices keep their lengths
+pub record Lengths (r q : Replay) : Type 0 where
+  pub bytes : length (r .expected .bytes) ≡ length (q .expected .bytes)
+  pub xram : length (r .expected .memory .ram) ≡ length (q .expected .memory .ram)
+  pub xrom : length (r .expected .memory .rom) ≡ length (q .expected .memory .rom)
+  pub xbelt : length (r .expected .memory .belt) ≡ length (q .expected .memory .belt)
+  pub ram : length (r .model .memory .ram) ≡ length (q .model .memory .ram)
+  pub rom : length (r .model .memory .rom) ≡ length (q .model .memory .rom)
+  pub belt : length (r .model .memory .belt) ≡ length (q .model .memory .belt)
+  pub opcodes : length (r .tallies .opcodes) ≡ length (q .tallies .opcodes)
+  pub exceptions : length (r .tallies .exceptions) ≡ length (q .tallies .exceptions)
+
+-- what holds before command i of a part: of the replay that the part began with, and of the one that it has come to
+pub record Going (s : List ℕ) (began r : Replay) (i : ℕ) : Type 0 where
+  pub lengths : Lengths r began
+  pub rest : replayedFrom (length s / 8) s 0 began ≡ replayedFrom (length s / 8 - i) s (i * 8) r
+
+pub again : {s : List ℕ} {began r q : Replay} {i word number : ℕ} → Going s began r i → i < length s / 8
+    → word ≡ readAt 4 s (i * 8) → number ≡ readAt 4 s (i * 8 + 4) → q ≡ commanded r (word / 16777216) (word % 16777216) number
+    → Lengths q r → Going s began q (i + 1)
+again {i = i} g more e f h kept =
+    let l = g .lengths in
+    record {
+      lengths =
+          record {
+            bytes = kept .bytes ∙ l .bytes;
+            xram = kept .xram ∙ l .xram;
+            xrom = kept .xrom ∙ l .xrom;
+            xbelt = kept .xbelt ∙ l .xbelt;
+            ram = kept .ram ∙ l .ram;
+            rom = kept .rom ∙ l .rom;
+            belt = kept .belt ∙ l .belt;
+            opcodes = kept .opcodes ∙ l .opcodes;
+            exceptions = kept .exceptions ∙ l .exceptions;
+          };
+      rest = g .rest ∙ replay-more _ i _ _ _ _ _ more e f h;
+    }
+
 pub part-judged : (s : List ℕ) (r : Replay) (x : Expected) (m : Machine) (c d : Counts) (t : Tallies)
     → replayedFrom (length s / 8) s 0 r ≡ replay x m c t → d ≡ judged false (eqb (length s % 8) 0) c → replay x m d t ≡ replayed s r
 unfolding replayed afterJudging

@@ -27,9 +27,6 @@ exception-ends kind eid e h = rw e (lt-ltb eid 32 h)
 
 -- ---- the turns
 
-pub one-more : (n i : ℕ) → i < n → i + 1 ≤ n
-one-more n i h = omega arith
-
 pub one-less : (n i : ℕ) → i < n → n - (i + 1) < n - i
 one-less n i h = omega arith
 

@@ -5,10 +5,11 @@ use mathlib.Core.List.{List}
 use Prim.Native.Nat.{ℕ, _+_, _-_, _%_, _<_}
 use native.Mathlib.Omega.{arith}
 use lib.Dec.{leb}
-use lib.ListN.{set}
+use lib.ListN.{length, set}
 use borrow.Author.Tests.{lt-leb, eq-eqb, ne-eqb}
 use Rattle.memory.specs.Map.{Memory}
 use Rattle.found.specs.Found.{Serves}
+use Rattle.found.specs.declared.Found.{Found}
 use Rattle.instructions.specs.Operands.{surroundings}
 use Rattle.instructions.specs.declared.Action.{Action}
 use Rattle.instructions.specs.declared.Action.the-variants.{Exception}
@@ -63,21 +64,43 @@ followed-serves highs last page i address e f = λ below. f ∙ ap (lookup highs
 
 -- ---- the run
 
-module _ (kind : Bool) (wanted made : ℕ) (p : Processor) (memory : Memory) (lines : ℕ) (registers : List ℕ) (a : Action) where
-  module _ (same : registers ≡ p .registers) (e : a ≡ lookFrom (surroundings (p .psw) (p .tlbhigh) (p .tlblow) memory) registers (p .pc) lines)
-      (more : made < wanted) (n : Machine) (after : n ≡ done (record { processor = p; memory = memory }) a) where
-    looked : look (record { processor = p; memory = memory }) lines ≡ a
-    unfolding look
-    looked = sym (e ∙ ap (λ (l : List ℕ). lookFrom (surroundings (p .psw) (p .tlbhigh) (p .tlblow) memory) l (p .pc) lines) same)
+-- what holds before each turn: of the machine that the run began with, of the one that it has come to, and of what the loop keeps beside it
+pub record Going (kind : Bool) (wanted lines : ℕ) (began m : Machine) (registers : List ℕ) (last : Found) (steps eid : ℕ) : Type 0 where
+  pub ram : length (m .memory .ram) ≡ length (began .memory .ram)
+  pub belt : length (m .memory .belt) ≡ length (began .memory .belt)
+  pub none : eid ≡ 32
+  pub same : registers ≡ m .processor .registers
+  pub found : last .index ≡ lookup (m .processor .tlbhigh) (last .page)
+  pub rest : runFrom kind wanted 0 began lines ≡ runFrom kind (wanted - steps) steps m lines
 
-    pub goes-on : ends kind (eidOf a) ≡ false
-        → runFrom kind (wanted - made) made (record { processor = p; memory = memory }) lines ≡ runFrom kind (wanted - (made + 1)) (made + 1) n lines
-    goes-on = run-more kind wanted made _ lines n (eidOf a) (after ∙ sym (step-done _ lines a looked)) (sym (step-eid _ lines a looked)) more
+module _ {kind : Bool} {wanted lines : ℕ} {began : Machine} {p : Processor} {memory : Memory} {registers : List ℕ} {last : Found} {steps eid : ℕ}
+    (g : Going kind wanted lines began (record { processor = p; memory = memory }) registers last steps eid) (more : steps < wanted)
+    {a : Action} (e : a ≡ lookFrom (surroundings (p .psw) (p .tlbhigh) (p .tlblow) memory) registers (p .pc) lines)
+    {n : Machine} (after : n ≡ done (record { processor = p; memory = memory }) a) where
+  looked : look (record { processor = p; memory = memory }) lines ≡ a
+  unfolding look
+  looked = sym (e ∙ ap (λ (l : List ℕ). lookFrom (surroundings (p .psw) (p .tlbhigh) (p .tlblow) memory) l (p .pc) lines) (g .same))
 
-    -- an exception that was named has a number below 32
-    pub stops : (eid address unused : ℕ) → a ≡ Exception eid address unused → kind ≡ true
-        → runFrom kind (wanted - made) made (record { processor = p; memory = memory }) lines ≡ outcome n 0 (made + 1) (eidOf a)
-    stops eid address unused f on =
-        let below : eid < 32 = omega (arith, named-below _ lines eid address unused (looked ∙ f)) in
-        run-stop kind wanted made _ lines n (eidOf a) (after ∙ sym (step-done _ lines a looked)) (sym (step-eid _ lines a looked)) more
-        (exception-ends kind (eidOf a) on (subst (λ (b : Action). eidOf b < 32) (sym f) below))
+  -- the run goes on
+  pub again : ends kind (eidOf a) ≡ false
+      → length (n .memory .ram) ≡ length (memory .ram) → length (n .memory .belt) ≡ length (memory .belt)
+      → {registers₁ : List ℕ} → registers₁ ≡ n .processor .registers
+      → {last₁ : Found} → last₁ .index ≡ lookup (n .processor .tlbhigh) (last₁ .page)
+      → Going kind wanted lines began n registers₁ last₁ (steps + 1) eid
+  again on ram belt same found =
+      record {
+        ram = ram ∙ g .ram;
+        belt = belt ∙ g .belt;
+        none = g .none;
+        same = same;
+        found = found;
+        rest = g .rest ∙ run-more kind wanted steps _ lines n (eidOf a) (after ∙ sym (step-done _ lines a looked)) (sym (step-eid _ lines a looked)) more on;
+      }
+
+  -- the run ends: an exception that was named has a number below 32
+  pub stops : (number address unused : ℕ) → a ≡ Exception number address unused → kind ≡ true
+      → outcome n 0 (steps + 1) (eidOf a) ≡ runFrom kind wanted 0 began lines
+  stops number address unused f on =
+      let below : number < 32 = omega (arith, named-below _ lines number address unused (looked ∙ f)) in
+      sym (g .rest ∙ run-stop kind wanted steps _ lines n (eidOf a) (after ∙ sym (step-done _ lines a looked)) (sym (step-eid _ lines a looked)) more
+      (exception-ends kind (eidOf a) on (subst (λ (b : Action). eidOf b < 32) (sym f) below)))

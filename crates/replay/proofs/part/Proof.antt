@@ -1,35 +1,31 @@
 -- `replay::part` meets its contract, by the laws of CommandLaws.
-use mathlib.Core.Path.{_≡_, refl, _∙_}
-use Prim.Native.Nat.{_*_, _-_, _/_, _≤_}
+use mathlib.Core.Path.{refl, _∙_}
+use Prim.Native.Nat.{_-_, _/_}
 use native.Mathlib.Omega.{arith}
 use lib.ListN.{length}
 use denote.Ref.{now}
 use borrow.Author.Needs.{needs}
 use Rattle.state.specs.Machine.{machine}
 use Rattle.expected.specs.Expected.{expected}
-use Rattle.replay.specs.Replay.{tallies, replay, replayedFrom}
-use Rattle.replay.proofs.CommandLaws.{in-part, in-part-word, replay-more, replay-end, replay-start, part-judged}
+use Rattle.replay.specs.Replay.{tallies, replay}
+use Rattle.replay.proofs.CommandLaws.{in-part, in-part-word, replay-end, replay-start, Going, again, part-judged}
 use Rattle.replay.proofs.part.Statement.{statement}
 use Rattle.replay.proofs.part.Tie as tie
 
 abbrev Inv-loop : tie.InvT-loop
-Inv-loop xrecord₀ xram₀ xrom₀ xbelt₀ ram₀ rom₀ belt₀ opcodes₀ exceptions₀ s state₀ tally₀ i₀ xrecord xram xrom xbelt ram rom belt opcodes exceptions state tally i = (i ≤ length s / 8)
-    × (length xrecord ≡ length xrecord₀)
-    × (length xram ≡ length xram₀)
-    × (length xrom ≡ length xrom₀)
-    × (length xbelt ≡ length xbelt₀)
-    × (length ram ≡ length ram₀)
-    × (length rom ≡ length rom₀)
-    × (length belt ≡ length belt₀)
-    × (length opcodes ≡ length opcodes₀)
-    × (length exceptions ≡ length exceptions₀)
-    × (replayedFrom (length s / 8) s 0 (replay (expected xrecord₀ xram₀ xrom₀ xbelt₀) (machine state₀ ram₀ rom₀ belt₀) tally₀ (tallies opcodes₀ exceptions₀)) ≡ replayedFrom (length s / 8 - i) s (i * 8) (replay (expected xrecord xram xrom xbelt) (machine state ram rom belt) tally (tallies opcodes exceptions)))
+Inv-loop xrecord₀ xram₀ xrom₀ xbelt₀ ram₀ rom₀ belt₀ opcodes₀ exceptions₀ s state₀ tally₀ i₀ xrecord xram xrom xbelt ram rom belt opcodes exceptions state tally i =
+    Going s (replay (expected xrecord₀ xram₀ xrom₀ xbelt₀) (machine state₀ ram₀ rom₀ belt₀) tally₀ (tallies opcodes₀ exceptions₀))
+    (replay (expected xrecord xram xrom xbelt) (machine state ram rom belt) tally (tallies opcodes exceptions)) i
 
 abbrev μ-loop : tie.MeasureT-loop
 μ-loop xrecord₀ xram₀ xrom₀ xbelt₀ ram₀ rom₀ belt₀ opcodes₀ exceptions₀ s state₀ tally₀ i₀ xrecord xram xrom xbelt ram rom belt opcodes exceptions state tally i = length s / 8 - i
 
 loop-holds : tie.Need-loop-holds Inv-loop μ-loop
-loop-holds c = (omega arith, refl, refl, refl, refl, refl, refl, refl, refl, refl, replay-start _ _ _)
+loop-holds c =
+    record {
+      lengths = record { bytes = refl; xram = refl; xrom = refl; xbelt = refl; ram = refl; rom = refl; belt = refl; opcodes = refl; exceptions = refl };
+      rest = replay-start _ _ _;
+    }
 
 mul-read-word : tie.Need-mul-read-word Inv-loop μ-loop
 mul-read-word c = let g = c .before .before .before .before .before .before .before .before .before .before .before .before .good .1 .1 .1 .1 .1 .1 .1 .1 .1 .1 .1 .0 in let inside = in-part (now (c .before .before .before .before .before .before .before .before .before .before .before .before .args .s)) (c .before .loop .i) (c .loop-test .taken) in omega arith
@@ -56,52 +52,57 @@ loop-less : tie.Need-loop-less Inv-loop μ-loop
 loop-less c = let more = c .before .before .before .before .before .before .before .before .before .before .before .before .before .before .before .before .before .before .before .before .before .before .before .before .before .before .before .before .before .before .before .before .loop-test .taken in omega arith
 
 loop-again : tie.Need-loop-again Inv-loop μ-loop
-loop-again c = (
-  let more = c .before .before .before .before .before .before .before .before .before .before .before .before .before .before .before .before .before .before .before .before .before .before .before .before .before .before .before .before .before .before .before .before .loop-test .taken in omega arith,
-  c .before .before .before .before .before .before .before .before .before .before .before .before .before .before .before .before .before .before .before .before .command .kept .1 .1 .0 ∙ c .before .before .before .before .before .before .before .before .before .before .before .before .before .before .before .before .before .before .before .before .before .before .before .before .before .before .before .before .before .before .before .before .before .loop .inv .1,
-  c .before .before .before .before .before .before .before .before .before .before .before .before .before .before .before .before .before .before .before .before .command .kept .1 .1 .1 .0 ∙ c .before .before .before .before .before .before .before .before .before .before .before .before .before .before .before .before .before .before .before .before .before .before .before .before .before .before .before .before .before .before .before .before .before .loop .inv .2,
-  c .before .before .before .before .before .before .before .before .before .before .before .before .before .before .before .before .before .before .before .before .command .kept .1 .1 .1 .1 .0 ∙ c .before .before .before .before .before .before .before .before .before .before .before .before .before .before .before .before .before .before .before .before .before .before .before .before .before .before .before .before .before .before .before .before .before .loop .inv .3,
-  c .before .before .before .before .before .before .before .before .before .before .before .before .before .before .before .before .before .before .before .before .command .kept .1 .1 .1 .1 .1 .0 ∙ c .before .before .before .before .before .before .before .before .before .before .before .before .before .before .before .before .before .before .before .before .before .before .before .before .before .before .before .before .before .before .before .before .before .loop .inv .4,
-  c .before .before .before .before .before .before .before .before .before .before .before .before .before .before .before .before .before .before .before .before .command .kept .1 .1 .1 .1 .1 .1 .0 ∙ c .before .before .before .before .before .before .before .before .before .before .before .before .before .before .before .before .before .before .before .before .before .before .before .before .before .before .before .before .before .before .before .before .before .loop .inv .5,
-  c .before .before .before .before .before .before .before .before .before .before .before .before .before .before .before .before .before .before .before .before .command .kept .1 .1 .1 .1 .1 .1 .1 .0 ∙ c .before .before .before .before .before .before .before .before .before .before .before .before .before .before .before .before .before .before .before .before .before .before .before .before .before .before .before .before .before .before .before .before .before .loop .inv .6,
-  c .before .before .before .before .before .before .before .before .before .before .before .before .before .before .before .before .before .before .before .before .command .kept .1 .1 .1 .1 .1 .1 .1 .1 .0 ∙ c .before .before .before .before .before .before .before .before .before .before .before .before .before .before .before .before .before .before .before .before .before .before .before .before .before .before .before .before .before .before .before .before .before .loop .inv .7,
-  c .before .before .before .before .before .before .before .before .before .before .before .before .before .before .before .before .before .before .before .before .command .kept .1 .1 .1 .1 .1 .1 .1 .1 .1 .0 ∙ c .before .before .before .before .before .before .before .before .before .before .before .before .before .before .before .before .before .before .before .before .before .before .before .before .before .before .before .before .before .before .before .before .before .loop .inv .8,
-  c .before .before .before .before .before .before .before .before .before .before .before .before .before .before .before .before .before .before .before .before .command .kept .1 .1 .1 .1 .1 .1 .1 .1 .1 .1 .0 ∙ c .before .before .before .before .before .before .before .before .before .before .before .before .before .before .before .before .before .before .before .before .before .before .before .before .before .before .before .before .before .before .before .before .before .loop .inv .9,
-  c .before .before .before .before .before .before .before .before .before .before .before .before .before .before .before .before .before .before .before .before .before .before .before .before .before .before .before .before .before .before .before .before .before .loop .inv .10 ∙ replay-more _ _ _ _ _ _ _ (c .before .before .before .before .before .before .before .before .before .before .before .before .before .before .before .before .before .before .before .before .before .before .before .before .before .before .before .before .before .before .before .before .loop-test .taken) (c .before .before .before .before .before .before .before .before .before .before .before .before .before .before .before .before .before .before .before .before .before .before .before .before .before .before .before .before .before .before .before .read-word .ensures) (c .before .before .before .before .before .before .before .before .before .before .before .before .before .before .before .before .before .before .before .before .before .before .before .before .before .before .before .before .before .before .read-word2 .ensures) (c .before .before .before .before .before .before .before .before .before .before .before .before .before .before .before .before .before .before .before .before .command .ensures),
-)
+loop-again c =
+    let command = c .before .before .before .before .before .before .before .before .before .before .before .before .before .before .before .before .before .before .before .before in
+    let kept = command .command .kept in
+    let second = command .before .before .before .before .before .before .before .before .before .before in
+    let first = second .before in
+    let test = first .before in
+    again (test .before .loop .inv) (test .loop-test .taken) (first .read-word .ensures) (second .read-word2 .ensures) (command .command .ensures)
+    record {
+      bytes = kept .1 .1 .0;
+      xram = kept .1 .1 .1 .0;
+      xrom = kept .1 .1 .1 .1 .0;
+      xbelt = kept .1 .1 .1 .1 .1 .0;
+      ram = kept .1 .1 .1 .1 .1 .1 .0;
+      rom = kept .1 .1 .1 .1 .1 .1 .1 .0;
+      belt = kept .1 .1 .1 .1 .1 .1 .1 .1 .0;
+      opcodes = kept .1 .1 .1 .1 .1 .1 .1 .1 .1 .0;
+      exceptions = kept .1 .1 .1 .1 .1 .1 .1 .1 .1 .1 .0;
+    }
 
 judge-requires : tie.Need-judge-requires Inv-loop μ-loop
 judge-requires c κs = search needs
 
 same-length : tie.Need-same-length Inv-loop μ-loop
-same-length c = c .before .before .loop .inv .1
+same-length c = c .before .before .loop .inv .lengths .bytes
 
 same-length-2 : tie.Need-same-length-2 Inv-loop μ-loop
-same-length-2 c = c .before .before .loop .inv .2
+same-length-2 c = c .before .before .loop .inv .lengths .xram
 
 same-length-3 : tie.Need-same-length-3 Inv-loop μ-loop
-same-length-3 c = c .before .before .loop .inv .3
+same-length-3 c = c .before .before .loop .inv .lengths .xrom
 
 same-length-4 : tie.Need-same-length-4 Inv-loop μ-loop
-same-length-4 c = c .before .before .loop .inv .4
+same-length-4 c = c .before .before .loop .inv .lengths .xbelt
 
 same-length-5 : tie.Need-same-length-5 Inv-loop μ-loop
-same-length-5 c = c .before .before .loop .inv .5
+same-length-5 c = c .before .before .loop .inv .lengths .ram
 
 same-length-6 : tie.Need-same-length-6 Inv-loop μ-loop
-same-length-6 c = c .before .before .loop .inv .6
+same-length-6 c = c .before .before .loop .inv .lengths .rom
 
 same-length-7 : tie.Need-same-length-7 Inv-loop μ-loop
-same-length-7 c = c .before .before .loop .inv .7
+same-length-7 c = c .before .before .loop .inv .lengths .belt
 
 same-length-8 : tie.Need-same-length-8 Inv-loop μ-loop
-same-length-8 c = c .before .before .loop .inv .8
+same-length-8 c = c .before .before .loop .inv .lengths .opcodes
 
 same-length-9 : tie.Need-same-length-9 Inv-loop μ-loop
-same-length-9 c = c .before .before .loop .inv .9
+same-length-9 c = c .before .before .loop .inv .lengths .exceptions
 
 returns : tie.Need-returns Inv-loop μ-loop
-returns c = part-judged _ _ _ _ _ _ _ (c .before .before .loop .inv .10 ∙ replay-end _ _ _ _ (c .before .loop-test .left)) (c .judge .ensures)
+returns c = part-judged _ _ _ _ _ _ _ (c .before .before .loop .inv .rest ∙ replay-end _ _ _ _ (c .before .loop-test .left)) (c .judge .ensures)
 
 pub part-spec : {M : Type 1} → statement M
 part-spec =

@@ -11,16 +11,14 @@ use Rattle.lookup.specs.Lookup.{lookup}
 use Rattle.state.specs.Machine.{machine}
 use Rattle.machine.proofs.Looks.{joined}
 use Rattle.steps.specs.Run.{runFrom}
-use Rattle.steps.proofs.Loop.{plain-goes-on, none-goes-on, run-end, run-start, one-more, one-less}
-use Rattle.steps.proofs.Turn.{zero-written, jump-kept, write-kept, jump-found, write-found, enter-found, followed-serves, goes-on, stops}
+use Rattle.steps.proofs.Loop.{plain-goes-on, none-goes-on, run-end, run-start, one-less}
+use Rattle.steps.proofs.Turn.{zero-written, jump-kept, write-kept, jump-found, write-found, enter-found, followed-serves, Going, again, stops}
 use Rattle.steps.proofs.advance.Statement.{statement}
 use Rattle.steps.proofs.advance.Tie as tie
 
 abbrev Inv-loop : tie.InvT-loop
 Inv-loop ram₀ rom belt₀ wanted lines kind state₀ registers₀ last₀ steps₀ eid₀ ram belt state registers last steps eid =
-    (length ram ≡ length ram₀) × (length belt ≡ length belt₀) × (steps ≤ wanted) × (eid ≡ 32)
-    × (registers ≡ state .registers) × (last .index ≡ lookup (state .tlbhigh) (last .page))
-    × (runFrom kind wanted 0 (machine state₀ ram₀ rom belt₀) lines ≡ runFrom kind (wanted - steps) steps (machine state ram rom belt) lines)
+    Going kind wanted lines (machine state₀ ram₀ rom belt₀) (machine state ram rom belt) registers last steps eid
 
 abbrev μ-loop : tie.MeasureT-loop
 μ-loop ram₀ rom belt₀ wanted lines kind state₀ registers₀ last₀ steps₀ eid₀ ram belt state registers last steps eid = wanted - steps
@@ -29,10 +27,10 @@ first-requires : tie.Need-first-requires Inv-loop μ-loop
 first-requires c κs = search needs
 
 loop-holds : tie.Need-loop-holds Inv-loop μ-loop
-loop-holds c = (refl, refl, omega arith, refl, refl, c .first .ensures .1, run-start _ _ 0 _ _)
+loop-holds c = record { ram = refl; belt = refl; none = refl; same = refl; found = c .first .ensures .1; rest = run-start _ _ 0 _ _ }
 
 follow-requires : tie.Need-follow-requires Inv-loop μ-loop
-follow-requires c κs = c .before .before .before .loop .inv .5
+follow-requires c κs = c .before .before .before .loop .inv .found
 
 look-at-requires : tie.Need-look-at-requires Inv-loop μ-loop
 look-at-requires c κs = followed-serves _ _ _ _ _ (c .before .before .before .before .before .before .follow .ensures .0) (c .before .before .before .before .before .before .follow .ensures .1)
@@ -57,15 +55,11 @@ loop-again c =
     let found = c .before .before .before .before .before .before .before .before .before .before .before .before in
     let test = found .before .before .before in
     let turn = test .before in
-    let start = turn .before .before .before .before .before .before .before .before in (
-      turn .loop .inv .0,
-      turn .loop .inv .1,
-      one-more _ _ (test .loop-test .taken),
-      turn .loop .inv .3,
-      jump-kept _ _ _ _ (turn .loop .inv .4) (c .jump .ensures),
-      jump-found _ _ _ _ (found .follow .ensures .1) _ (c .jump .ensures),
-      turn .loop .inv .6 ∙ goes-on _ _ _ _ _ _ _ _ (turn .loop .inv .4) (sym (c .before .before .before .action .given .1) ∙ c .before .before .before .before .before .look-at .ensures) (test .loop-test .taken) _ (ap (λ (p : Processor). machine p (turn .loop .ram) (now (start .args .rom)) (turn .loop .belt)) (c .jump .ensures ∙ zero-written _ _ _ _ (c .before .if1 .taken))) (none-goes-on _),
-    )
+    again (turn .loop .inv) (test .loop-test .taken) (sym (c .before .before .before .action .given .1) ∙ c .before .before .before .before .before .look-at .ensures)
+    (joined (c .jump .ensures ∙ zero-written _ _ _ _ (c .before .if1 .taken)) refl)
+    (none-goes-on _) refl refl
+    (jump-kept _ _ _ _ (turn .loop .inv .same) (c .jump .ensures))
+    (jump-found _ _ _ _ (found .follow .ensures .1) _ (c .jump .ensures))
 
 write-requires : tie.Need-write-requires Inv-loop μ-loop
 write-requires c κs = search needs
@@ -84,15 +78,11 @@ loop-again-2 c =
     let found = c .before .before .before .before .before .before .before .before .before .before .before .before in
     let test = found .before .before .before in
     let turn = test .before in
-    let start = turn .before .before .before .before .before .before .before .before in (
-      turn .loop .inv .0,
-      turn .loop .inv .1,
-      one-more _ _ (test .loop-test .taken),
-      turn .loop .inv .3,
-      write-kept _ _ _ _ _ _ (turn .loop .inv .4) (c .before .if1 .left) (c .write .ensures),
-      write-found _ _ _ _ (found .follow .ensures .1) _ _ _ (c .write .ensures),
-      turn .loop .inv .6 ∙ goes-on _ _ _ _ _ _ _ _ (turn .loop .inv .4) (sym (c .before .before .before .action .given .1) ∙ c .before .before .before .before .before .look-at .ensures) (test .loop-test .taken) _ (ap (λ (p : Processor). machine p (turn .loop .ram) (now (start .args .rom)) (turn .loop .belt)) (c .write .ensures)) (none-goes-on _),
-    )
+    again (turn .loop .inv) (test .loop-test .taken) (sym (c .before .before .before .action .given .1) ∙ c .before .before .before .before .before .look-at .ensures)
+    (joined (c .write .ensures) refl)
+    (none-goes-on _) refl refl
+    (write-kept _ _ _ _ _ _ (turn .loop .inv .same) (c .before .if1 .left) (c .write .ensures))
+    (write-found _ _ _ _ (found .follow .ensures .1) _ _ _ (c .write .ensures))
 
 enum-known-action-2 : tie.Need-enum-known-action-2 Inv-loop μ-loop
 enum-known-action-2 c = search needs
@@ -113,15 +103,12 @@ loop-again-3 : tie.Need-loop-again-3 Inv-loop μ-loop
 loop-again-3 c =
     let found = c .before .before .before .before .before .before .before .before .before .before .before .before .before .before .before .before .before .before .before in
     let test = found .before .before .before in
-    let turn = test .before in (
-      c .before .before .before .before .before .before .store .kept .0 ∙ turn .loop .inv .0,
-      c .before .before .before .before .before .before .store .kept .1 .1 .0 ∙ turn .loop .inv .1,
-      one-more _ _ (test .loop-test .taken),
-      turn .loop .inv .3,
-      jump-kept _ _ _ _ (turn .loop .inv .4) (c .jump2 .ensures),
-      jump-found _ _ _ _ (found .follow .ensures .1) _ (c .jump2 .ensures),
-      turn .loop .inv .6 ∙ goes-on _ _ _ _ _ _ _ _ (turn .loop .inv .4) (sym (c .before .before .before .before .before .before .before .before .before .before .action2 .given .1) ∙ c .before .before .before .before .before .before .before .before .before .before .before .before .look-at .ensures) (test .loop-test .taken) _ (joined (c .jump2 .ensures ∙ ap (jumped (turn .loop .state)) (c .before .add .ensures)) (c .before .before .before .before .before .before .store .ensures)) (none-goes-on _),
-    )
+    let turn = test .before in
+    again (turn .loop .inv) (test .loop-test .taken) (sym (c .before .before .before .before .before .before .before .before .before .before .action2 .given .1) ∙ c .before .before .before .before .before .before .before .before .before .before .before .before .look-at .ensures)
+    (joined (c .jump2 .ensures ∙ ap (jumped (turn .loop .state)) (c .before .add .ensures)) (c .before .before .before .before .before .before .store .ensures))
+    (none-goes-on _) (c .before .before .before .before .before .before .store .kept .0) (c .before .before .before .before .before .before .store .kept .1 .1 .0)
+    (jump-kept _ _ _ _ (turn .loop .inv .same) (c .jump2 .ensures))
+    (jump-found _ _ _ _ (found .follow .ensures .1) _ (c .jump2 .ensures))
 
 enum-known-action-3 : tie.Need-enum-known-action-3 Inv-loop μ-loop
 enum-known-action-3 c = search needs
@@ -139,15 +126,11 @@ loop-again-4 : tie.Need-loop-again-4 Inv-loop μ-loop
 loop-again-4 c =
     let test = c .before .before .before .before .before .before .before .before .before .before .before .before .before .before .before .before .before .before in
     let turn = test .before in
-    let start = turn .before .before .before .before .before .before .before .before in (
-      turn .loop .inv .0,
-      turn .loop .inv .1,
-      one-more _ _ (test .loop-test .taken),
-      turn .loop .inv .3,
-      refl,
-      c .first2 .ensures .1,
-      turn .loop .inv .6 ∙ goes-on _ _ _ _ _ _ _ _ (turn .loop .inv .4) (sym (c .before .before .before .before .before .before .action3 .given .1) ∙ c .before .before .before .before .before .before .before .before .look-at .ensures) (test .loop-test .taken) _ (ap (λ (p : Processor). machine p (turn .loop .ram) (now (start .args .rom)) (turn .loop .belt)) (c .before .before .before .before .system .ensures)) (none-goes-on _),
-    )
+    again (turn .loop .inv) (test .loop-test .taken) (sym (c .before .before .before .before .before .before .action3 .given .1) ∙ c .before .before .before .before .before .before .before .before .look-at .ensures)
+    (joined (c .before .before .before .before .system .ensures) refl)
+    (none-goes-on _) refl refl
+    refl
+    (c .first2 .ensures .1)
 
 enum-known-action-4 : tie.Need-enum-known-action-4 Inv-loop μ-loop
 enum-known-action-4 c = search needs
@@ -163,37 +146,33 @@ loop-again-5 c =
     let found = c .before .before .before .before .before .before .before .before .before .before .before .before .before in
     let test = found .before .before .before in
     let turn = test .before in
-    let start = turn .before .before .before .before .before .before .before .before in (
-      turn .loop .inv .0,
-      turn .loop .inv .1,
-      one-more _ _ (test .loop-test .taken),
-      turn .loop .inv .3,
-      refl,
-      enter-found _ _ _ _ (found .follow .ensures .1) _ _ (c .before .before .enter .ensures),
-      turn .loop .inv .6 ∙ goes-on _ _ _ _ _ _ _ _ (turn .loop .inv .4) (sym (c .before .before .before .before .action4 .given .1) ∙ c .before .before .before .before .before .before .look-at .ensures) (test .loop-test .taken) _ (ap (λ (p : Processor). machine p (turn .loop .ram) (now (start .args .rom)) (turn .loop .belt)) (c .before .before .enter .ensures)) (plain-goes-on _ _ (c .if2 .left)),
-    )
+    again (turn .loop .inv) (test .loop-test .taken) (sym (c .before .before .before .before .action4 .given .1) ∙ c .before .before .before .before .before .before .look-at .ensures)
+    (joined (c .before .before .enter .ensures) refl)
+    (plain-goes-on _ _ (c .if2 .left)) refl refl
+    refl
+    (enter-found _ _ _ _ (found .follow .ensures .1) _ _ (c .before .before .enter .ensures))
 
 same-length : tie.Need-same-length Inv-loop μ-loop
-same-length c = c .before .loop .inv .0
+same-length c = c .before .loop .inv .ram
 
 same-length-2 : tie.Need-same-length-2 Inv-loop μ-loop
-same-length-2 c = c .before .loop .inv .1
+same-length-2 c = c .before .loop .inv .belt
 
 returns : tie.Need-returns Inv-loop μ-loop
-returns c = sym (c .before .loop .inv .6 ∙ run-end _ _ _ _ _ _ (c .before .loop .inv .3) (c .loop-test .left))
+returns c = sym (c .before .loop .inv .rest ∙ run-end _ _ _ _ _ _ (c .before .loop .inv .none) (c .loop-test .left))
 
 same-length-3 : tie.Need-same-length-3 Inv-loop μ-loop
-same-length-3 c = c .before .before .before .before .before .before .before .before .before .before .before .before .before .before .before .before .before .loop .inv .0
+same-length-3 c = c .before .before .before .before .before .before .before .before .before .before .before .before .before .before .before .before .before .loop .inv .ram
 
 same-length-4 : tie.Need-same-length-4 Inv-loop μ-loop
-same-length-4 c = c .before .before .before .before .before .before .before .before .before .before .before .before .before .before .before .before .before .loop .inv .1
+same-length-4 c = c .before .before .before .before .before .before .before .before .before .before .before .before .before .before .before .before .before .loop .inv .belt
 
 returns-2 : tie.Need-returns-2 Inv-loop μ-loop
 returns-2 c =
     let test = c .before .before .before .before .before .before .before .before .before .before .before .before .before .before .before .before in
-    let turn = test .before in
-    let start = turn .before .before .before .before .before .before .before .before in
-    sym (turn .loop .inv .6 ∙ stops _ _ _ _ _ _ _ _ (turn .loop .inv .4) (sym (c .before .before .before .before .action4 .given .1) ∙ c .before .before .before .before .before .before .look-at .ensures) (test .loop-test .taken) _ (ap (λ (p : Processor). machine p (turn .loop .ram) (now (start .args .rom)) (turn .loop .belt)) (c .before .before .enter .ensures)) _ _ _ refl (c .if2 .taken))
+    stops (test .before .loop .inv) (test .loop-test .taken) (sym (c .before .before .before .before .action4 .given .1) ∙ c .before .before .before .before .before .before .look-at .ensures)
+    (joined (c .before .before .enter .ensures) refl)
+    _ _ _ refl (c .if2 .taken)
 
 pub advance-spec : {M : Type 1} → statement M
 advance-spec =
