@@ -61,6 +61,6 @@ pub fn write(p: Processor, buffer: &mut [u8]) -> u32
     if !fitness::is_fit(p) {
         return UNFIT;
     }
-    recordlayout::put(p, buffer);
+    recordwrite::put(p, buffer);
     ACCEPTED
 }

@@ -11,7 +11,7 @@ pub fn reset(machine: &mut [u8]) -> u32
     if machine.len() != record::LENGTH {
         return record::WRONG_LENGTH;
     }
-    recordlayout::put(Processor::reset(), machine);
+    recordwrite::put(Processor::reset(), machine);
     record::ACCEPTED
 }
 
@@ -30,6 +30,6 @@ pub fn copy(from: &[u8], buffer: &mut [u8]) -> u32
     if reading.refusal != record::ACCEPTED {
         return reading.refusal;
     }
-    recordlayout::put(reading.processor, buffer);
+    recordwrite::put(reading.processor, buffer);
     record::ACCEPTED
 }

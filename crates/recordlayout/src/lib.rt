@@ -1,41 +1,40 @@
-// The layout of the machine record: where its kind bytes and numbers stand, and a processor got from it and put into it.
+// The layout of the machine record: where its kind bytes and numbers stand, and a processor got from it.
 use processor::Processor;
 ghost use mathlib.Core.Path.{_≡_};
-ghost use Prim.Native.Nat.{_<_};
 ghost use lib.ListN.{length};
-ghost use Rattle.recordlayout.specs.Record.{recordOf, kindsInPlace, processorOf};
+ghost use Rattle.recordlayout.specs.Record.{kindsInPlace, processorOf};
 
 // Where the kind bytes stand.
-const REGISTERS_KIND_AT: usize = 0;
+pub const REGISTERS_KIND_AT: usize = 0;
 
-const PC_KIND_AT: usize = 129;
+pub const PC_KIND_AT: usize = 129;
 
-const SPECIAL_KIND_AT: usize = 134;
+pub const SPECIAL_KIND_AT: usize = 134;
 
-const TLB_KIND_AT: usize = 155;
+pub const TLB_KIND_AT: usize = 155;
 
-const REPLACEMENT_KIND_AT: usize = 412;
+pub const REPLACEMENT_KIND_AT: usize = 412;
 
 // Where the numbers stand.
-const REGISTERS_AT: usize = 1;
+pub const REGISTERS_AT: usize = 1;
 
-const PC_AT: usize = 130;
+pub const PC_AT: usize = 130;
 
-const PSW_AT: usize = 135;
+pub const PSW_AT: usize = 135;
 
-const INDEX_AT: usize = 139;
+pub const INDEX_AT: usize = 139;
 
-const ENTRY_HIGH_AT: usize = 143;
+pub const ENTRY_HIGH_AT: usize = 143;
 
-const ENTRY_LOW_AT: usize = 147;
+pub const ENTRY_LOW_AT: usize = 147;
 
-const BAD_ADDRESS_AT: usize = 151;
+pub const BAD_ADDRESS_AT: usize = 151;
 
-const TLB_HIGH_AT: usize = 156;
+pub const TLB_HIGH_AT: usize = 156;
 
-const TLB_LOW_AT: usize = 160;
+pub const TLB_LOW_AT: usize = 160;
 
-const REPLACEMENT_AT: usize = 413;
+pub const REPLACEMENT_AT: usize = 413;
 
 pub fn kinds_in_place(s: &[u8]) -> bool
     requires { ⌜ length (now s) ≡ 414 ⌝ }
@@ -79,23 +78,4 @@ pub fn get(s: &[u8]) -> Processor
         tlblow: tlblow,
         replacement: endian::read_byte(s, REPLACEMENT_AT),
     }
-}
-
-// The 414 bytes of a processor, into a buffer of that length.
-pub fn put(p: Processor, s: &mut [u8])
-    requires { ⌜ (length (now s) ≡ 414) × (p .replacement < 256) ⌝ }
-    ensures { λ r. ⌜ now (s .exit) ≡ recordOf p ⌝ }
-{
-    let specials = [p.psw, p.index, p.entryhigh, p.entrylow, p.badaddress];
-    endianwrite::write_byte(s, REGISTERS_KIND_AT, 1);
-    arrays::put_words(s, REGISTERS_AT, 4, &p.registers);
-    endianwrite::write_byte(s, PC_KIND_AT, 2);
-    endianwrite::write_word(s, PC_AT, p.pc);
-    endianwrite::write_byte(s, SPECIAL_KIND_AT, 3);
-    arrays::put_words(s, PSW_AT, 4, &specials);
-    endianwrite::write_byte(s, TLB_KIND_AT, 4);
-    arrays::put_words(s, TLB_HIGH_AT, 8, &p.tlbhigh);
-    arrays::put_words(s, TLB_LOW_AT, 8, &p.tlblow);
-    endianwrite::write_byte(s, REPLACEMENT_KIND_AT, 5);
-    endianwrite::write_byte(s, REPLACEMENT_AT, p.replacement);
 }

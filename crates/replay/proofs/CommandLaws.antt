@@ -14,7 +14,8 @@ use Rattle.record.specs.Calls.{readRefusal}
 use Rattle.tally.specs.declared.Counts.{Counts}
 use Rattle.tally.specs.Tally.{caseBegun, stepMade, endRead, judged}
 use Rattle.expected.specs.Expected.{Expected, clear, patchFits, patched, startedIn, stepAgrees}
-use Rattle.replay.specs.Replay.{Tallies, Replay, replay, opcodeAt, tallied, good, done, afterJudging, commanded, commandedAt, replayedFrom, replayed}
+use Rattle.replaystep.specs.Tallies.{Tallies, opcodeAt, tallied}
+use Rattle.replay.specs.Replay.{Replay, replay, good, done, afterJudging, commanded, commandedAt, replayedFrom, replayed}
 
 -- ---- one command
 

@@ -1,4 +1,3 @@
 -- The laws of `replay`, in the order to read them.
-pub mod StepLaws
 pub mod CommandLaws
 pub mod Mismatches

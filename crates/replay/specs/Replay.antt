@@ -6,41 +6,13 @@ use lib.Dec.{eqb}
 use lib.ListN.{length}
 use Rattle.words.specs.Logic.{both}
 use Rattle.endian.specs.BigEndian.{readAt}
-use Rattle.reads.specs.Reads.{readFrom}
-use Rattle.reads.specs.declared.Read.{Read}
-use Rattle.reads.specs.declared.Read.the-variants.{Value, Fault}
 use Rattle.state.specs.Machine.{Machine}
-use Rattle.machine.specs.Step.{stepOf, stepEid, surroundingsOf}
+use Rattle.machine.specs.Step.{stepOf, stepEid}
 use Rattle.record.specs.Calls.{readRefusal}
-use Rattle.tally.specs.Tally.{raisedAt, caseBegun, stepMade, endRead, judged}
+use Rattle.tally.specs.Tally.{caseBegun, stepMade, endRead, judged}
 use Rattle.expected.specs.Expected.{Expected, expected, clear, patchFits, patched, startedIn, stepAgrees}
 use Rattle.tally.specs.declared.Counts.{Counts}
-
--- ---- steps counted by opcode and by exception
-
--- the opcode of a word that was read, or 64
-abbrev pub opcodeRead : Read → ℕ
-opcodeRead (Value word) = word / 2 ^ 26
-opcodeRead (Fault eid) = 64
-
--- of the word at the PC
-unfoldable pub opcodeAt : Machine → ℕ
-opcodeAt m = opcodeRead (readFrom 4 (surroundingsOf m) (m .processor .pc))
-
--- the steps that completed, by opcode, and the accepted exceptions by EID
-pub record Tallies : Type 0 where
-  pub opcodes : List ℕ
-  pub exceptions : List ℕ
-
-abbrev pub tallies : List ℕ → List ℕ → Tallies
-tallies opcodes exceptions = record { opcodes = opcodes; exceptions = exceptions }
-
--- a step with this EID, or 32, of the instruction with this opcode
-unfoldable pub tallied : Tallies → ℕ → ℕ → Tallies
-tallied t opcode eid =
-    cond (eqb eid 32)
-    (tallies (raisedAt (t .opcodes) opcode) (t .exceptions))
-    (tallies (t .opcodes) (raisedAt (t .exceptions) eid))
+use Rattle.replaystep.specs.Tallies.{Tallies, opcodeAt, tallied}
 
 -- ---- the state of a replay
 

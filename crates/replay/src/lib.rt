@@ -1,6 +1,4 @@
 // A file of test vectors replayed on the model: what each command does, and what is counted.
-mod model;
-
 use processor::Processor;
 use tally::Counts;
 ghost use mathlib.Core.Bool.{false, cond};
@@ -10,7 +8,8 @@ ghost use lib.Dec.{eqb};
 ghost use Rattle.state.specs.Machine.{machine};
 ghost use Rattle.tally.specs.Tally.{caseBegun, judged};
 ghost use Rattle.expected.specs.Expected.{expected, clear, patchFits, patched};
-ghost use Rattle.replay.specs.Replay.{clearKind, startKind, endKind, tallies, replay, commanded, replayed, finished};
+ghost use Rattle.replaystep.specs.Tallies.{tallies};
+ghost use Rattle.replay.specs.Replay.{clearKind, startKind, endKind, replay, commanded, replayed, finished};
 
 const CLEAR: u32 = 0;
 
@@ -70,7 +69,7 @@ fn act(
 {
     match kind {
         START => {
-            let reading = model::start(ram, rom, belt, xrecord, xram, xrom, xbelt);
+            let reading = replaystep::start(ram, rom, belt, xrecord, xram, xrom, xbelt);
             let started = reading.processor;
             Progress {
                 processor: started,
@@ -78,7 +77,7 @@ fn act(
             }
         }
         STEP => {
-            let compared = model::step(
+            let compared = replaystep::step(
                 p,
                 ram,
                 &rom[..],

@@ -55,7 +55,7 @@ pub fn call(
         lines as u32,
         kind,
     );
-    recordlayout::put(ran.processor, machine);
+    recordwrite::put(ran.processor, machine);
     Answer {
         refusal: ran.refusal,
         steps: ran.steps,

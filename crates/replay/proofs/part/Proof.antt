@@ -7,7 +7,8 @@ use denote.Ref.{now}
 use borrow.Author.Needs.{needs}
 use Rattle.state.specs.Machine.{machine}
 use Rattle.expected.specs.Expected.{expected}
-use Rattle.replay.specs.Replay.{tallies, replay}
+use Rattle.replaystep.specs.Tallies.{tallies}
+use Rattle.replay.specs.Replay.{replay}
 use Rattle.replay.proofs.CommandLaws.{in-part, in-part-word, replay-end, replay-start, Going, again, part-judged}
 use Rattle.replay.proofs.part.Statement.{statement}
 use Rattle.replay.proofs.part.Tie as tie

@@ -10,7 +10,7 @@ use Rattle.state.specs.Machine.{Machine}
 use Rattle.machine.specs.Step.{stepOf, stepEid, surroundingsOf}
 use Rattle.tally.specs.Tally.{raisedAt}
 use Rattle.expected.specs.Expected.{Expected, agrees, stepAgrees}
-use Rattle.replay.specs.Replay.{opcodeRead, opcodeAt, Tallies, tallies, tallied}
+use Rattle.replaystep.specs.Tallies.{opcodeRead, opcodeAt, Tallies, tallies, tallied}
 
 module _ (m : Machine) where
   pub opcode-fetched : (word : ℕ) → readFrom 4 (surroundingsOf m) (m .processor .pc) ≡ Value word → word / 67108864 ≡ opcodeAt m

@@ -1,8 +1,8 @@
--- `replay::model::step` meets its contract, by the laws of StepLaws.
-use Rattle.replay.proofs.StepLaws.{step-compared, step-counted}
+-- `replaystep::step` meets its contract, by the laws of StepLaws.
+use Rattle.replaystep.proofs.StepLaws.{step-compared, step-counted}
 use borrow.Author.Needs.{needs}
-use Rattle.replay.proofs.model.step.Statement.{statement}
-use Rattle.replay.proofs.model.step.Tie as tie
+use Rattle.replaystep.proofs.step.Statement.{statement}
+use Rattle.replaystep.proofs.step.Tie as tie
 
 opcode-at-requires : tie.Need-opcode-at-requires
 opcode-at-requires c κs = search needs

@@ -1,8 +1,8 @@
--- `replay::model::count_step` meets its contract, by the laws of StepLaws.
-use Rattle.replay.proofs.StepLaws.{completed, excepted}
+-- `replaystep::count_step` meets its contract, by the laws of StepLaws.
+use Rattle.replaystep.proofs.StepLaws.{completed, excepted}
 use borrow.Author.Needs.{needs}
-use Rattle.replay.proofs.model.count_step.Statement.{statement}
-use Rattle.replay.proofs.model.count_step.Tie as tie
+use Rattle.replaystep.proofs.count_step.Statement.{statement}
+use Rattle.replaystep.proofs.count_step.Tie as tie
 
 raise-at-requires : tie.Need-raise-at-requires
 raise-at-requires c κs = search needs

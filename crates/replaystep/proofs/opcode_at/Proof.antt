@@ -1,11 +1,11 @@
--- `replay::model::opcode_at` meets its contract, by the laws of StepLaws.
+-- `replaystep::opcode_at` meets its contract, by the laws of StepLaws.
 use mathlib.Core.Path.{sym, _∙_}
 use denote.Ref.{now}
 use Rattle.state.specs.Machine.{machine}
-use Rattle.replay.proofs.StepLaws.{opcode-fetched, opcode-faulted}
+use Rattle.replaystep.proofs.StepLaws.{opcode-fetched, opcode-faulted}
 use borrow.Author.Needs.{needs}
-use Rattle.replay.proofs.model.opcode_at.Statement.{statement}
-use Rattle.replay.proofs.model.opcode_at.Tie as tie
+use Rattle.replaystep.proofs.opcode_at.Statement.{statement}
+use Rattle.replaystep.proofs.opcode_at.Tie as tie
 
 read-word-requires : tie.Need-read-word-requires
 read-word-requires c κs = search needs

@@ -1,8 +1,8 @@
--- `replay::model::start` meets its contract, by the laws of ExpectedLaws.
+-- `replaystep::start` meets its contract, by the laws of ExpectedLaws.
 use Rattle.expected.proofs.ExpectedLaws.{started-is}
 use borrow.Author.Needs.{needs}
-use Rattle.replay.proofs.model.start.Statement.{statement}
-use Rattle.replay.proofs.model.start.Tie as tie
+use Rattle.replaystep.proofs.start.Statement.{statement}
+use Rattle.replaystep.proofs.start.Tie as tie
 
 copy-requires : tie.Need-copy-requires
 copy-requires c κs = search needs

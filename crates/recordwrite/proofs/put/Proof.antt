@@ -1,10 +1,10 @@
--- `recordlayout::put` meets its contract, by the law of the eleven writes.
+-- `recordwrite::put` meets its contract, by the law of the eleven writes.
 use native.Mathlib.Omega.{arith}
 use denote.Ref.{now}
 use borrow.Author.Needs.{needs}
 use Rattle.recordlayout.proofs.Written.{Arrays, all-written}
-use Rattle.recordlayout.proofs.put.Statement.{statement}
-use Rattle.recordlayout.proofs.put.Tie as tie
+use Rattle.recordwrite.proofs.put.Statement.{statement}
+use Rattle.recordwrite.proofs.put.Tie as tie
 
 write-byte-requires : tie.Need-write-byte-requires
 write-byte-requires c κs = search needs

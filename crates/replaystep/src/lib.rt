@@ -1,16 +1,14 @@
 // The model's machine: started, stepped, and its steps counted.
 use processor::Processor;
-use reads;
 use reads::Read;
 use record::Reading;
 ghost use mathlib.Core.Path.{_≡_};
 ghost use Rattle.memory.specs.Map.{memory};
 ghost use Rattle.state.specs.Machine.{machine};
-ghost use Rattle.machine.specs.Step.{stepOf};
+ghost use Rattle.machine.specs.Step.{stepOf, stepEid};
 ghost use Rattle.record.specs.Calls.{readRefusal};
 ghost use Rattle.expected.specs.Expected.{expected, startedIn, stepAgrees};
-ghost use Rattle.replay.specs.Replay.{opcodeAt, tallies, tallied};
-ghost use Rattle.machine.specs.Step.{stepEid};
+ghost use Rattle.replaystep.specs.Tallies.{opcodeAt, tallies, tallied};
 
 // The processor after a step, and whether it agrees with the expected machine.
 pub struct Compared {

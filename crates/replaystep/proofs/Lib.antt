@@ -1,0 +1,2 @@
+-- The laws of `replaystep`.
+pub mod StepLaws

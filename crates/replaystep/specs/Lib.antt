@@ -1,0 +1,2 @@
+-- The definitions of `replaystep`.
+pub mod Tallies
