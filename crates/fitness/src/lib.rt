@@ -7,7 +7,7 @@ ghost use Rattle.words.specs.Logic.{both};
 ghost use Rattle.kept.specs.Kept.{keptHigh, keptLow, onlySpecial, onlyFrom};
 ghost use Rattle.processor.specs.State.{fit};
 
-// Whether no other bit is set in PSW, TLB Index, Entry High and Entry Low.
+// Whether PSW, TLB Index, Entry High and Entry Low have only bits that they keep.
 fn only_special(psw: u32, index: u32, high: u32, low: u32) -> bool
     ensures { λ r. ⌜ r ≡ onlySpecial psw index high low ⌝ }
 {
@@ -51,7 +51,7 @@ fn only_low(words: &Words) -> bool
     true
 }
 
-// Whether no other bit is set in the high words and in the low words of a TLB.
+// The same for the high words and the low words of a TLB.
 fn only_words(high: &Words, low: &Words) -> bool
     ensures { λ r. ⌜ r ≡ both (onlyFrom keptHigh 32 (now (high .entry)) 0) (onlyFrom keptLow 32 (now (low .entry)) 0) ⌝ }
 {
