@@ -21,13 +21,14 @@ pub fn system(p: Processor, opcode: u32, z: u32, v: u32) -> Processor
     ensures { λ r. ⌜ r ≡ systemDone opcode z v p ⌝ }
 {
     let next = sums::add(p.pc, 4);
+    let moved = p.jump(next);
     match opcode {
         0x2F => p.leave(),
-        0x38 => p.write(v, p.special(z), next),
-        0x39 => p.jump(next).write_special(z, v),
-        0x3A => p.jump(next).search(),
-        0x3B => p.jump(next).write_random(),
-        0x3C => p.jump(next).read_indexed(),
-        _ => p.jump(next).write_indexed(),
+        0x38 => p.write(v, inspect::special(p, z), next),
+        0x39 => moved.write_special(z, v),
+        0x3A => inspect::search(moved),
+        0x3B => moved.write_random(),
+        0x3C => inspect::read_indexed(moved),
+        _ => moved.write_indexed(),
     }
 }

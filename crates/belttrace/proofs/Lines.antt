@@ -66,8 +66,9 @@ four rom s {t} {u} {v} {w} {k} {l} {m} {n} ek el em en et eu ev ew =
 
 -- ---- what is written, and which answer
 
-pub room-kept : (s t : List ℕ) → length t ≡ length s → 56 ≤ length s → 56 ≤ length t
-room-kept s t e h = rw e h
+-- the room for a line that ends before the 56th byte
+pub room-kept : (s t : List ℕ) (at left : ℕ) → length t ≡ length s → 56 ≤ length s → at + left ≡ 56 → at ≤ length t
+room-kept s t at left e h f = omega arith
 
 pub answer-short : (input : List ℕ) → length input < 4096 → answerOf input ≡ shortInput
 unfolding answerOf

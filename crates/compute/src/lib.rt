@@ -5,44 +5,17 @@ use words::extension;
 ghost use mathlib.Core.Path.{_≡_};
 ghost use Prim.Native.Nat.{_≤_};
 ghost use lib.ListN.{getD};
-ghost use Rattle.quotients.specs.Quotients.{signedQuotient, unsignedQuotient, signedRemainder, unsignedRemainder};
 ghost use Rattle.instructions.specs.Operands.{operands, illegal};
 ghost use Rattle.compute.specs.Compute.{unlessZero, computations};
 
-fn quotient_signed(number: u32, x: u32, y: u32, next: u32) -> Action
-    ensures { λ r. ⌜ r ≡ unlessZero y (Action.Write number (signedQuotient x y) next) ⌝ }
+// What a division comes to: its value in a register, or the fault of a divisor of 0.
+fn divided(number: u32, value: u32, divisor: u32, next: u32) -> Action
+    ensures { λ r. ⌜ r ≡ unlessZero divisor (Action.Write number value next) ⌝ }
 {
-    if y == 0 {
+    if divisor == 0 {
         return Action::Exception(Processor::DIVISION_BY_ZERO, 0, 0);
     }
-    Action::Write(number, quotients::divide_signed(x, y), next)
-}
-
-fn quotient_unsigned(number: u32, x: u32, y: u32, next: u32) -> Action
-    ensures { λ r. ⌜ r ≡ unlessZero y (Action.Write number (unsignedQuotient x y) next) ⌝ }
-{
-    if y == 0 {
-        return Action::Exception(Processor::DIVISION_BY_ZERO, 0, 0);
-    }
-    Action::Write(number, quotients::divide_unsigned(x, y), next)
-}
-
-fn remaining_signed(number: u32, x: u32, y: u32, next: u32) -> Action
-    ensures { λ r. ⌜ r ≡ unlessZero y (Action.Write number (signedRemainder x y) next) ⌝ }
-{
-    if y == 0 {
-        return Action::Exception(Processor::DIVISION_BY_ZERO, 0, 0);
-    }
-    Action::Write(number, quotients::remainder_signed(x, y), next)
-}
-
-fn remaining_unsigned(number: u32, x: u32, y: u32, next: u32) -> Action
-    ensures { λ r. ⌜ r ≡ unlessZero y (Action.Write number (unsignedRemainder x y) next) ⌝ }
-{
-    if y == 0 {
-        return Action::Exception(Processor::DIVISION_BY_ZERO, 0, 0);
-    }
-    Action::Write(number, quotients::remainder_unsigned(x, y), next)
+    Action::Write(number, value, next)
 }
 
 // Opcodes 00 to 1F. x and y are the registers of bits 25..21 and 20..16.
@@ -62,14 +35,14 @@ pub fn arithmetic(opcode: u32, x: u32, y: u32, word: u32, next: u32) -> Action
         0x05 => Action::Write(n, sums::multiply(x, s), next),
         0x06 => Action::Write(r, sums::multiply(x, y), next),
         0x07 => Action::Write(n, sums::multiply(x, z), next),
-        0x08 => quotient_signed(r, x, y, next),
-        0x09 => quotient_signed(n, x, s, next),
-        0x0A => quotient_unsigned(r, x, y, next),
-        0x0B => quotient_unsigned(n, x, z, next),
-        0x0C => remaining_signed(r, x, y, next),
-        0x0D => remaining_signed(n, x, s, next),
-        0x0E => remaining_unsigned(r, x, y, next),
-        0x0F => remaining_unsigned(n, x, z, next),
+        0x08 => divided(r, quotients::divide_signed(x, y), y, next),
+        0x09 => divided(n, quotients::divide_signed(x, s), s, next),
+        0x0A => divided(r, quotients::divide_unsigned(x, y), y, next),
+        0x0B => divided(n, quotients::divide_unsigned(x, z), z, next),
+        0x0C => divided(r, quotients::remainder_signed(x, y), y, next),
+        0x0D => divided(n, quotients::remainder_signed(x, s), s, next),
+        0x0E => divided(r, quotients::remainder_unsigned(x, y), y, next),
+        0x0F => divided(n, quotients::remainder_unsigned(x, z), z, next),
         _ => logic(opcode, x, y, word, next),
     }
 }

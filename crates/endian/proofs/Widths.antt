@@ -106,7 +106,18 @@ read-joined v (suc w) s at =
     let regroup : readAt v s at * 256 ^ w * 256 ≡ readAt v s at * (256 ^ w * 256) = mul-assoc (readAt v s at) (256 ^ w) 256 in
     rw (add-suc v w, pow-suc 256 w, add-assoc at v w) (omega arith)
 
+-- a half-word that was read fits its width, in a list of bytes
+pub half-lt : (s : List ℕ) (at r : ℕ) → r ≡ readAt 2 s at → ((j : ℕ) → getD s j 0 < 256) → r < 65536
+half-lt s at r e h = rw e (read-lt 2 s at h)
+
+-- a word is two half-words
+pub word-halves : (s : List ℕ) (at : ℕ) → readAt 4 s at ≡ readAt 2 s at * 65536 + readAt 2 s (at + 2)
+word-halves s at = read-joined 2 2 s at
+
 -- the three widths of the processor
+pub byte-fits : (b : ℕ) → b < 256 → b < 4294967296
+byte-fits b h = omega arith
+
 pub byte-read : (s : List ℕ) (at : ℕ) → readAt 1 s at ≡ getD s at 0
 unfolding readAt
 byte-read s at = rw add-zero (omega arith)

@@ -1,3 +1,2 @@
--- The laws of `outcomes`, in the order to read them.
+-- The laws of `outcomes`.
 pub mod TestLaws
-pub mod Equal

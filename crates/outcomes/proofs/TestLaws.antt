@@ -1,6 +1,6 @@
--- Tests one after the other, and a run by its outcome.
+-- A run by its outcome.
 use mathlib.Core.Path.{_≡_, ap, _∙_}
-use mathlib.Core.Bool.{Bool, true, false}
+use mathlib.Core.Bool.{Bool}
 use mathlib.Core.List.{List}
 use Prim.Native.Nat.{ℕ}
 use lib.ListN.{getD}
@@ -9,13 +9,7 @@ use Rattle.slices.specs.Same.{same}
 use Rattle.processor.specs.declared.Processor.{Processor}
 use Rattle.state.specs.Machine.{Machine}
 use Rattle.steps.specs.Run.{Outcome, answer, outcome}
-use Rattle.outcomes.specs.Unchanged.{sameProcessor, sameMachine}
-
-pub fails : {t : Bool} (u : Bool) → t ≡ false → false ≡ both t u
-fails {t} u e = rw e
-
-pub passes : {t u v : Bool} → t ≡ true → v ≡ u → v ≡ both t u
-passes {t} {u} {v} e f = rw e f
+use Rattle.machines.specs.Unchanged.{sameProcessor, sameMachine}
 
 module _ (m : Machine) (refusal steps eid : ℕ) (o : Outcome) (e : outcome m refusal steps eid ≡ o) where
   pub run-answers : answer refusal steps eid ≡ o .answer

@@ -1,6 +1,4 @@
 // Calls of the model with processors by value, and whether they left the machine and all memory as they were.
-mod unchanged;
-
 use processor::Processor;
 use steps::Ran;
 ghost use mathlib.Core.Path.{_≡_};
@@ -10,7 +8,7 @@ ghost use Rattle.state.specs.Machine.{machine};
 ghost use Rattle.steps.specs.Run.{answer, outcome, runOf};
 ghost use Rattle.record.specs.Calls.{readRefusal, processorRead, writeRefusal, bufferAfter};
 ghost use Rattle.slices.specs.Same.{same};
-ghost use Rattle.outcomes.specs.Unchanged.{sameProcessor, sameMachine};
+ghost use Rattle.machines.specs.Unchanged.{sameProcessor, sameMachine};
 
 // What a run answers; whether the machine is unchanged; and register 1 after it.
 pub struct Outcome {
@@ -67,7 +65,7 @@ pub fn run(
     let ran = run_of_kind(kind, p, ram, rom, belt, wanted);
     let after = ran.processor;
     let registers = after.registers;
-    let kept = unchanged::same_machine(p, ramcopy, beltcopy, after, &ram[..], &belt[..]);
+    let kept = machines::same_machine(p, ramcopy, beltcopy, after, &ram[..], &belt[..]);
     Outcome {
         refusal: ran.refusal,
         steps: ran.steps,
@@ -83,8 +81,8 @@ pub fn read(bytes: &[u8], p: Processor) -> Handed
 {
     let reading = record::read(bytes);
     let handed = reading.processor;
-    let given = unchanged::same_processor(p, handed);
-    let reset = unchanged::same_processor(Processor::reset(), handed);
+    let given = machines::same_processor(p, handed);
+    let reset = machines::same_processor(Processor::reset(), handed);
     Handed {
         refusal: reading.refusal,
         given: given,

@@ -1,7 +1,7 @@
 // General-purpose and special registers (manual, 2.4 and 2.6).
 use crate::Processor;
 ghost use mathlib.Core.Path.{_≡_};
-ghost use Rattle.processor.specs.Register.{written, jumped, special, specialWritten};
+ghost use Rattle.processor.specs.Register.{written, jumped, specialWritten};
 
 impl Processor {
     // A register written, and the PC after the instruction. Register 0 never changes.
@@ -47,20 +47,6 @@ impl Processor {
             tlbhigh: tlbhigh,
             tlblow: tlblow,
             replacement: self.replacement,
-        }
-    }
-
-    // A number above 4 reads 0.
-    pub fn special(self, number: u32) -> u32
-        ensures { λ r. ⌜ r ≡ special self number ⌝ }
-    {
-        match number {
-            0 => self.psw,
-            1 => self.index,
-            2 => self.entryhigh,
-            3 => self.entrylow,
-            4 => self.badaddress,
-            _ => 0,
         }
     }
 

@@ -1,7 +1,7 @@
-// The TLB and its registers (manual, 2.9; 3.6.5 to 3.6.8).
+// Writes to the TLB (manual, 2.9; 3.6.6 and 3.6.8).
 use crate::Processor;
 ghost use mathlib.Core.Path.{_≡_};
-ghost use Rattle.processor.specs.Tlb.{entryWritten, indexedWritten, randomWritten, entryRead, searched};
+ghost use Rattle.processor.specs.Tlb.{entryWritten, indexedWritten, randomWritten};
 
 impl Processor {
     fn write_entry(mut self, i: usize, replacement: u32) -> Self
@@ -33,27 +33,5 @@ impl Processor {
             self.replacement as usize,
             lookup::next_replacement(self.replacement),
         )
-    }
-
-    // TBRI.
-    pub fn read_indexed(mut self) -> Self
-        ensures { λ r. ⌜ r ≡ entryRead self ⌝ }
-    {
-        let i = self.index as usize % 32;
-        let tlbhigh = self.tlbhigh;
-        self.entryhigh = tlbhigh[i];
-        let tlblow = self.tlblow;
-        self.entrylow = tlblow[i];
-        self
-    }
-
-    // TBS.
-    pub fn search(mut self) -> Self
-        ensures { λ r. ⌜ r ≡ searched self ⌝ }
-    {
-        let tlbhigh = self.tlbhigh;
-        let i = lookup::find(&tlbhigh, self.entryhigh / 0x1000);
-        self.index = lookup::found_index(i);
-        self
     }
 }

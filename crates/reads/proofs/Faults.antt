@@ -1,5 +1,6 @@
--- A translation that is no physical address comes to its fault, in a read.
-use mathlib.Core.Path.{_≡_, refl}
+-- A read by what its translation came to: a fault, or what the load at the physical address brought.
+use mathlib.Core.Path.{_≡_, refl, ap, sym, _∙_}
+use mathlib.Core.Bool.{false}
 use mathlib.Core.Logic.{⊎-elim}
 use mathlib.Core.List.{List, [], _∷_}
 use Prim.Native.Nat.{ℕ}
@@ -7,11 +8,15 @@ use native.Mathlib.Omega.{arith}
 use types.Run.{OneOf}
 use denote.Enum.Declared.{tagOf}
 use Rattle.translation.proofs.Translation as T
-use Rattle.translation.specs.Translation.{translationEid}
+use Rattle.translation.specs.Translation.{translated, translationEid}
 use Rattle.translation.specs.declared.Translation.{Translation}
 use Rattle.translation.specs.declared.Translation.the-variants.{Physical, TlbMiss, TlbWrite, TlbInvalid, IllegalAddress, PrivilegedAddress}
 use Rattle.memory.specs.Map.{Memory}
-use Rattle.reads.specs.Reads.{readThrough}
+use Rattle.memory.specs.Access.{loadOf}
+use Rattle.memory.specs.declared.Loaded.{Loaded}
+use Rattle.instructions.specs.Operands.{Surroundings}
+use Rattle.reads.specs.Reads.{answered, readThrough, readFrom}
+use Rattle.reads.specs.declared.Read.{Read}
 use Rattle.reads.specs.declared.Read.the-variants.{Fault}
 
 -- the tag of a variant that is none of the faults
@@ -29,3 +34,14 @@ read-fault width m TlbWrite h = refl
 read-fault width m TlbInvalid h = refl
 read-fault width m IllegalAddress h = refl
 read-fault width m PrivilegedAddress h = refl
+
+-- the two ways through a read
+module _ (width : ℕ) (s : Surroundings) (address : ℕ) {t : Translation}
+    (e : t ≡ translated (s .psw) (s .highs) (s .lows) width false address) where
+  pub to-a-fault : {eid : ℕ} → IsFault t → eid ≡ translationEid t → Fault eid ≡ readFrom width s address
+  unfolding readFrom
+  to-a-fault h k = ap Fault k ∙ read-fault width (s .memory) t h ∙ ap (readThrough width (s .memory)) e
+
+  pub to-a-load : {x : ℕ} {l : Loaded} {r : Read} → t ≡ Physical x → l ≡ loadOf width (s .memory) x → r ≡ answered l → r ≡ readFrom width s address
+  unfolding readFrom
+  to-a-load f g h = h ∙ ap answered g ∙ sym (ap (readThrough width (s .memory)) (sym e ∙ f))

@@ -8,12 +8,22 @@ ghost use mathlib.Core.Path.{_≡_};
 ghost use Rattle.memory.specs.Map.{memory};
 ghost use Rattle.found.specs.Found.{Serves};
 ghost use Rattle.instructions.specs.Operands.{surroundings};
-ghost use Rattle.reads.specs.Reads.{readFrom};
+ghost use Rattle.reads.specs.Reads.{answered, readFrom};
 
 // What a read through the translation brings: a value, or a fault's identifier.
 pub enum Read {
     Value(u32),
     Fault(u32),
+}
+
+// What a load brought: a value, or the bus timeout.
+fn brought(loaded: Loaded) -> Read
+    ensures { λ r. ⌜ r ≡ answered loaded ⌝ }
+{
+    match loaded {
+        Loaded::Value(v) => Read::Value(v),
+        Loaded::Timeout => Read::Fault(Processor::BUS_TIMEOUT),
+    }
 }
 
 pub fn read_byte<'a>(
@@ -31,11 +41,7 @@ pub fn read_byte<'a>(
     let Translation::Physical(physical) = place else {
         return Read::Fault(translation::eid_of(place));
     };
-    let loaded = loads::load_byte(ram, rom, belt, physical);
-    match loaded {
-        Loaded::Value(v) => Read::Value(v),
-        Loaded::Timeout => Read::Fault(Processor::BUS_TIMEOUT),
-    }
+    brought(loads::load_byte(ram, rom, belt, physical))
 }
 
 pub fn read_half<'a>(
@@ -53,11 +59,7 @@ pub fn read_half<'a>(
     let Translation::Physical(physical) = place else {
         return Read::Fault(translation::eid_of(place));
     };
-    let loaded = loads::load_half(ram, rom, belt, physical);
-    match loaded {
-        Loaded::Value(v) => Read::Value(v),
-        Loaded::Timeout => Read::Fault(Processor::BUS_TIMEOUT),
-    }
+    brought(loads::load_half(ram, rom, belt, physical))
 }
 
 pub fn read_word<'a>(
@@ -75,11 +77,7 @@ pub fn read_word<'a>(
     let Translation::Physical(physical) = place else {
         return Read::Fault(translation::eid_of(place));
     };
-    let loaded = loads::load_word(ram, rom, belt, physical);
-    match loaded {
-        Loaded::Value(v) => Read::Value(v),
-        Loaded::Timeout => Read::Fault(Processor::BUS_TIMEOUT),
-    }
+    brought(loads::load_word(ram, rom, belt, physical))
 }
 
 // The instruction word at the PC, whose page has the index `i`.
@@ -100,9 +98,5 @@ pub fn fetch<'a>(
     let Translation::Physical(physical) = place else {
         return Read::Fault(translation::eid_of(place));
     };
-    let loaded = loads::load_word(ram, rom, belt, physical);
-    match loaded {
-        Loaded::Value(v) => Read::Value(v),
-        Loaded::Timeout => Read::Fault(Processor::BUS_TIMEOUT),
-    }
+    brought(loads::load_word(ram, rom, belt, physical))
 }

@@ -10,6 +10,10 @@ use Rattle.refusal.specs.Refusal.{memoryChecked, stepsChecked}
 use Rattle.steps.specs.Run.{Answer, answer, Outcome, runFrom}
 use Rattle.recordcalls.specs.Records.{recordChecked}
 
+-- the first of two refusals that is not 0, or 0
+unfoldable pub firstOf : ℕ → ℕ → ℕ
+firstOf a b = cond (eqb a 0) b a
+
 -- causes 1 to 7, in the table's order; 0 where none holds
 unfoldable pub callRefusal : List ℕ → Memory → ℕ → ℕ
 callRefusal s m wanted = memoryChecked m (recordChecked s (stepsChecked wanted))

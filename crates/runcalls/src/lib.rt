@@ -2,7 +2,7 @@
 use processor::Processor;
 ghost use mathlib.Core.Path.{_≡_};
 ghost use Rattle.memory.specs.Map.{memory};
-ghost use Rattle.runcalls.specs.Runs.{called, callOf};
+ghost use Rattle.runcalls.specs.Runs.{firstOf, called, callOf};
 
 // struct eco32_answer
 #[repr(C)]
@@ -22,6 +22,19 @@ fn refused(number: u32) -> Answer
     }
 }
 
+// The first of three refusals that is not 0, or 0.
+fn first_of(a: u32, b: u32, c: u32) -> u32
+    ensures { λ r. ⌜ r ≡ firstOf a (firstOf b c) ⌝ }
+{
+    if a != 0 {
+        return a;
+    }
+    if b != 0 {
+        return b;
+    }
+    c
+}
+
 // A run of either kind: causes 1, 2 and 3, then 4, 5 and 6 of the record, then 7.
 pub fn call(
     machine: &mut [u8],
@@ -35,16 +48,11 @@ pub fn call(
     ensures { λ r. ⌜ called (now (machine .exit)) (memory (now (ram .exit)) (now (rom .entry)) (now (belt .exit))) (r .refusal) (r .steps) (r .eid) ≡ callOf kind (now (machine .entry)) (memory (now (ram .entry)) (now (rom .entry)) (now (belt .entry))) wanted lines ⌝ }
 {
     let lengths = refusal::of_lengths(ram.len(), rom.len(), belt.len());
-    if lengths != 0 {
-        return refused(lengths);
-    }
     let reading = record::read(&machine[..]);
-    if reading.refusal != 0 {
-        return refused(reading.refusal);
-    }
     let steps = refusal::of_steps(wanted);
-    if steps != 0 {
-        return refused(steps);
+    let number = first_of(lengths, reading.refusal, steps);
+    if number != 0 {
+        return refused(number);
     }
     let ran = steps::advance(
         reading.processor,

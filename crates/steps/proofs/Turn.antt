@@ -1,5 +1,5 @@
--- One turn of the loop, by the action that the look named, and what stands beside the state: a copy of its registers, and a TLB entry.
-use mathlib.Core.Path.{_≡_, ap, sym, subst, _∙_}
+-- One turn of the loop, by the action that the look named, and what stands beside the state: copies of its registers and TLB, and an entry.
+use mathlib.Core.Path.{_≡_, refl, ap, sym, subst, _∙_}
 use mathlib.Core.Bool.{Bool, true, false, cond}
 use mathlib.Core.List.{List}
 use Prim.Native.Nat.{ℕ, _+_, _-_, _%_, _<_}
@@ -32,30 +32,46 @@ pub zero-written : (p : Processor) (n v next : ℕ) → n % 32 ≡ 0 → jumped 
 unfolding written jumped put
 zero-written p n v next e = simp (eq-eqb (n % 32) 0 e)
 
--- the copy of the registers after a jump and after a write
-pub jump-kept : (registers : List ℕ) (p q : Processor) (next : ℕ) → registers ≡ p .registers → q ≡ jumped p next → registers ≡ q .registers
-unfolding jumped
-jump-kept registers p q next same e = same ∙ sym (ap (λ (r : Processor). r .registers) e)
+-- what stands beside a state, and is the same as in it: its registers and the high and low words of its TLB
+pub record Beside (p : Processor) (rs hs ls : List ℕ) : Type 0 where
+  pub registers : rs ≡ p .registers
+  pub highs : hs ≡ p .tlbhigh
+  pub lows : ls ≡ p .tlblow
 
-pub write-kept : (registers : List ℕ) (p q : Processor) (n v next : ℕ) → registers ≡ p .registers → (n % 32 ≡ 0 → ⊥) → q ≡ written p n v next
-    → set registers (n % 32) v ≡ q .registers
-unfolding written put
-write-kept registers p q n v next same other e =
-    ap (λ (l : List ℕ). set l (n % 32) v) same ∙ sym (ap (λ (r : Processor). r .registers) e ∙ simp (ne-eqb (n % 32) 0 other))
-
--- the entry found last after a jump, a write and exception entry: none of them changes the TLB
-module _ (i page : ℕ) (p q : Processor) (found : i ≡ lookup (p .tlbhigh) page) where
-  pub jump-found : (next : ℕ) → q ≡ jumped p next → i ≡ lookup (q .tlbhigh) page
+-- after a jump, a write and exception entry: none of them changes the TLB
+module _ {p q : Processor} {rs hs ls : List ℕ} (b : Beside p rs hs ls) where
+  pub jump-beside : (next : ℕ) → q ≡ jumped p next → Beside q rs hs ls
   unfolding jumped
-  jump-found next e = found ∙ sym (ap (λ (r : Processor). lookup (r .tlbhigh) page) e)
+  jump-beside next e =
+      record {
+        registers = b .registers ∙ sym (ap (λ (r : Processor). r .registers) e);
+        highs = b .highs ∙ sym (ap (λ (r : Processor). r .tlbhigh) e);
+        lows = b .lows ∙ sym (ap (λ (r : Processor). r .tlblow) e);
+      }
 
-  pub write-found : (n v next : ℕ) → q ≡ written p n v next → i ≡ lookup (q .tlbhigh) page
-  unfolding written
-  write-found n v next e = found ∙ sym (ap (λ (r : Processor). lookup (r .tlbhigh) page) e)
+  pub write-beside : (n v next : ℕ) → (n % 32 ≡ 0 → ⊥) → q ≡ written p n v next → Beside q (set rs (n % 32) v) hs ls
+  unfolding written put
+  write-beside n v next other e =
+      record {
+        registers = ap (λ (l : List ℕ). set l (n % 32) v) (b .registers) ∙ sym (ap (λ (r : Processor). r .registers) e ∙ simp (ne-eqb (n % 32) 0 other));
+        highs = b .highs ∙ sym (ap (λ (r : Processor). r .tlbhigh) e);
+        lows = b .lows ∙ sym (ap (λ (r : Processor). r .tlblow) e);
+      }
 
-  pub enter-found : (eid address : ℕ) → q ≡ entered p eid address → i ≡ lookup (q .tlbhigh) page
+  pub enter-beside : (eid address : ℕ) → q ≡ entered p eid address → Beside q (q .registers) hs ls
   unfolding entered
-  enter-found eid address e = found ∙ sym (ap (λ (r : Processor). lookup (r .tlbhigh) page) e)
+  enter-beside eid address e =
+      record {
+        registers = refl;
+        highs = b .highs ∙ sym (ap (λ (r : Processor). r .tlbhigh) e);
+        lows = b .lows ∙ sym (ap (λ (r : Processor). r .tlblow) e);
+      }
+
+-- a look from what stands beside a state is the look of that state
+same-look : (p : Processor) (memory : Memory) (lines : ℕ) {rs hs ls : List ℕ} → Beside p rs hs ls
+    → lookFrom (surroundings (p .psw) hs ls memory) rs (p .pc) lines ≡ look (record { processor = p; memory = memory }) lines
+unfolding look
+same-look p memory lines b = rw (b .registers, b .highs, b .lows)
 
 -- the entry that was followed to serves the address
 pub followed-serves : (highs : List ℕ) (last page i address : ℕ) → page ≡ cond (leb 0xC0000000 address) last (pageOf address)
@@ -65,34 +81,33 @@ followed-serves highs last page i address e f = λ below. f ∙ ap (lookup highs
 -- ---- the run
 
 -- what holds before each turn: of the machine that the run began with, of the one that it has come to, and of what the loop keeps beside it
-pub record Going (kind : Bool) (wanted lines : ℕ) (began m : Machine) (registers : List ℕ) (last : Found) (steps eid : ℕ) : Type 0 where
+pub record Going (kind : Bool) (wanted lines : ℕ) (began m : Machine) (rs hs ls : List ℕ) (last : Found) (steps eid : ℕ) : Type 0 where
   pub ram : length (m .memory .ram) ≡ length (began .memory .ram)
   pub belt : length (m .memory .belt) ≡ length (began .memory .belt)
   pub none : eid ≡ 32
-  pub same : registers ≡ m .processor .registers
-  pub found : last .index ≡ lookup (m .processor .tlbhigh) (last .page)
+  pub beside : Beside (m .processor) rs hs ls
+  pub found : last .index ≡ lookup hs (last .page)
   pub rest : runFrom kind wanted 0 began lines ≡ runFrom kind (wanted - steps) steps m lines
 
-module _ {kind : Bool} {wanted lines : ℕ} {began : Machine} {p : Processor} {memory : Memory} {registers : List ℕ} {last : Found} {steps eid : ℕ}
-    (g : Going kind wanted lines began (record { processor = p; memory = memory }) registers last steps eid) (more : steps < wanted)
-    {a : Action} (e : a ≡ lookFrom (surroundings (p .psw) (p .tlbhigh) (p .tlblow) memory) registers (p .pc) lines)
+module _ {kind : Bool} {wanted lines : ℕ} {began : Machine} {p : Processor} {memory : Memory} {rs hs ls : List ℕ} {last : Found} {steps eid : ℕ}
+    (g : Going kind wanted lines began (record { processor = p; memory = memory }) rs hs ls last steps eid) (more : steps < wanted)
+    {a : Action} (e : a ≡ lookFrom (surroundings (p .psw) hs ls memory) rs (p .pc) lines)
     {n : Machine} (after : n ≡ done (record { processor = p; memory = memory }) a) where
   looked : look (record { processor = p; memory = memory }) lines ≡ a
-  unfolding look
-  looked = sym (e ∙ ap (λ (l : List ℕ). lookFrom (surroundings (p .psw) (p .tlbhigh) (p .tlblow) memory) l (p .pc) lines) (g .same))
+  looked = sym (e ∙ same-look p memory lines (g .beside))
 
   -- the run goes on
   pub again : ends kind (eidOf a) ≡ false
       → length (n .memory .ram) ≡ length (memory .ram) → length (n .memory .belt) ≡ length (memory .belt)
-      → {registers₁ : List ℕ} → registers₁ ≡ n .processor .registers
-      → {last₁ : Found} → last₁ .index ≡ lookup (n .processor .tlbhigh) (last₁ .page)
-      → Going kind wanted lines began n registers₁ last₁ (steps + 1) eid
-  again on ram belt same found =
+      → {rs₁ hs₁ ls₁ : List ℕ} → Beside (n .processor) rs₁ hs₁ ls₁
+      → {last₁ : Found} → last₁ .index ≡ lookup hs₁ (last₁ .page)
+      → Going kind wanted lines began n rs₁ hs₁ ls₁ last₁ (steps + 1) eid
+  again on ram belt beside found =
       record {
         ram = ram ∙ g .ram;
         belt = belt ∙ g .belt;
         none = g .none;
-        same = same;
+        beside = beside;
         found = found;
         rest = g .rest ∙ run-more kind wanted steps _ lines n (eidOf a) (after ∙ sym (step-done _ lines a looked)) (sym (step-eid _ lines a looked)) more on;
       }

@@ -26,19 +26,21 @@ pub fn advance(
     ensures { λ r. ⌜ outcome (machine (r .processor) (now (ram .exit)) (now (rom .entry)) (now (belt .exit))) (r .refusal) (r .steps) (r .eid) ≡ runFrom kind wanted 0 (machine p (now (ram .entry)) (now (rom .entry)) (now (belt .entry))) lines ⌝ }
 {
     let mut state = p;
-    // Beside the state, and the same as in it: a read of `state.registers` would wait for the copy that each write makes.
+    // Beside the state, and the same as in it: a read of the state itself would wait for the copy that each write makes.
     let mut registers = p.registers;
-    let mut last = found::first(&p.tlbhigh);
+    let mut highs = p.tlbhigh;
+    let mut lows = p.tlblow;
+    let mut last = found::first(&highs);
     let mut steps = 0;
     let mut eid = Processor::NO_EXCEPTION;
     while steps < wanted {
-        last = found::follow(&state.tlbhigh, last, state.pc);
+        last = found::follow(&highs, last, state.pc);
         let action = look::look_at(
             &registers,
             state.pc,
             state.psw,
-            &state.tlbhigh,
-            &state.tlblow,
+            &highs,
+            &lows,
             last.index,
             &ram[..],
             rom,
@@ -63,7 +65,9 @@ pub fn advance(
             Action::System(opcode, z, v) => {
                 state = actions::system(state, opcode, z, v);
                 registers = state.registers;
-                last = found::first(&state.tlbhigh);
+                highs = state.tlbhigh;
+                lows = state.tlblow;
+                last = found::first(&highs);
             }
             Action::Exception(number, address, _) => {
                 state = state.enter(number, address);

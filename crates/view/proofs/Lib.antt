@@ -1,5 +1,2 @@
--- The laws of `view`, in the order to read them.
+-- The laws of `view`.
 pub mod Answers
-pub mod Lookup
-pub mod Frame
-pub mod Loads

@@ -1,9 +1,9 @@
--- The page view: which part of RAM it hands out, and what it refuses (document 01, "Runs and views" and "Refused calls").
+-- The page view: where its part of RAM lies, and what it refuses (document 01, "Runs and views" and "Refused calls").
 use mathlib.Core.Bool.{Bool, false, cond}
-use mathlib.Core.List.{List, []}
-use Prim.Native.Nat.{ℕ, _+_, _*_}
+use mathlib.Core.List.{List}
+use Prim.Native.Nat.{ℕ, _*_}
 use lib.Dec.{leb, ltb, eqb}
-use lib.ListN.{length, take, drop}
+use lib.ListN.{length}
 use Rattle.words.specs.Logic.{both}
 use Rattle.processor.specs.State.{fit}
 use Rattle.translation.specs.Translation.{translated}
@@ -59,11 +59,3 @@ viewOffset ram p page = cond (eqb (viewRefusal ram p page) 0) (offsetOf (lookedU
 
 unfoldable pub viewLength : List ℕ → Processor → ℕ → ℕ
 viewLength ram p page = cond (eqb (viewRefusal ram p page) 0) 4096 0
-
--- the bytes of the part: the 4,096 from the offset, or none where refused
-unfoldable pub viewPart : List ℕ → Processor → ℕ → List ℕ
-viewPart ram p page = cond (eqb (viewRefusal ram p page) 0) (take 4096 (drop (viewOffset ram p page) ram)) []
-
--- the pointer to the part, from that to RAM (a block of memory and an offset in it): so the part is in RAM itself
-abbrev pub partPtr : ℕ × ℕ → List ℕ → Processor → ℕ → ℕ × ℕ
-partPtr start ram p page = (start .0, start .1 + viewOffset ram p page)

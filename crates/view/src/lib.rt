@@ -1,9 +1,9 @@
-// The page view: the part of the lent RAM behind a virtual page (document 01, "Runs and views").
+// The page view: where the part of the lent RAM behind a virtual page lies (document 01, "Runs and views").
 use processor::Processor;
 use translation::Translation;
 use translation::Width;
 ghost use mathlib.Core.Path.{_≡_};
-ghost use Rattle.view.specs.View.{viewRefusal, viewOffset, viewLength, viewPart, partPtr};
+ghost use Rattle.view.specs.View.{viewRefusal, viewOffset, viewLength};
 
 // Number 8 of the table of refusals.
 const NO_FRAME: u32 = 8;
@@ -18,12 +18,6 @@ pub struct View {
     pub refusal: u32,
     pub offset: u64,
     pub length: u64,
-}
-
-// The refusal or 0, and the part of the lent RAM: 4,096 bytes, or empty where refused.
-pub struct Part<'a> {
-    pub refusal: u32,
-    pub part: &'a [u8],
 }
 
 fn refused(number: u32) -> View
@@ -66,35 +60,5 @@ pub fn locate(ram: &[u8], p: Processor, page: u64) -> View
         refusal: 0,
         offset: physical as u64,
         length: FRAME_BYTES,
-    }
-}
-
-fn refusal_of<'a>(ram: &'a [u8], p: Processor, page: u64) -> u32
-    ensures { λ r. ⌜ r ≡ viewRefusal (now (ram .entry)) p page ⌝ }
-{
-    let view = locate(ram, p, page);
-    view.refusal
-}
-
-// The part of the caller's RAM itself, or an empty part.
-fn part_of<'a>(ram: &'a [u8], p: Processor, page: u64) -> &'a [u8]
-    ensures { λ r. ⌜ (now r ≡ viewPart (now (ram .entry)) p page) × (r .ptr ≡ partPtr (ram .entry .ptr) (now (ram .entry)) p page) ⌝ }
-{
-    let view = locate(ram, p, page);
-    if view.refusal != 0 {
-        return &ram[..0];
-    }
-    let start = view.offset as usize;
-    let end = start + view.length as usize;
-    &ram[start..end]
-}
-
-// The number and the part.
-pub fn page_view<'a>(ram: &'a [u8], p: Processor, page: u64) -> Part<'a>
-    ensures { λ r. ⌜ (r .refusal ≡ viewRefusal (now (ram .entry)) p page) × (now (r .part) ≡ viewPart (now (ram .entry)) p page) × (r .part .ptr ≡ partPtr (ram .entry .ptr) (now (ram .entry)) p page) ⌝ }
-{
-    Part {
-        refusal: refusal_of(ram, p, page),
-        part: part_of(ram, p, page),
     }
 }

@@ -14,6 +14,9 @@ use Rattle.actions.proofs.system.Tie as tie
 add-requires : tie.Need-add-requires
 add-requires c κs = search needs
 
+jump-requires : tie.Need-jump-requires
+jump-requires c κs = search needs
+
 leave-requires : tie.Need-leave-requires
 leave-requires c κs = search needs
 
@@ -23,80 +26,61 @@ special-requires c κs = search needs
 write-requires : tie.Need-write-requires
 write-requires c κs = search needs
 
-jump-requires : tie.Need-jump-requires
-jump-requires c κs = search needs
-
 write-special-requires : tie.Need-write-special-requires
 write-special-requires c κs = search needs
-
-jump-requires-2 : tie.Need-jump-requires-2
-jump-requires-2 c κs = search needs
 
 search-requires : tie.Need-search-requires
 search-requires c κs = search needs
 
-jump-requires-3 : tie.Need-jump-requires-3
-jump-requires-3 c κs = search needs
-
 write-random-requires : tie.Need-write-random-requires
 write-random-requires c κs = search needs
 
-jump-requires-4 : tie.Need-jump-requires-4
-jump-requires-4 c κs = search needs
-
 read-indexed-requires : tie.Need-read-indexed-requires
 read-indexed-requires c κs = search needs
-
-jump-requires-5 : tie.Need-jump-requires-5
-jump-requires-5 c κs = search needs
 
 write-indexed-requires : tie.Need-write-indexed-requires
 write-indexed-requires c κs = search needs
 
 returns : tie.Need-returns
 unfolding systemDone
-returns c = arm (λ (n : ℕ). systemDone n (c .before .before .before .args .z) (c .before .before .before .args .v) (c .before .before .before .args .p)) (c .before .match .keys1) (c .leave .ensures)
+returns c = arm (λ (n : ℕ). systemDone n (c .before .before .before .before .args .z) (c .before .before .before .before .args .v) (c .before .before .before .before .args .p)) (c .before .match .keys1) (c .leave .ensures)
 
 returns-2 : tie.Need-returns-2
 unfolding systemDone
-returns-2 c = arm (λ (n : ℕ). systemDone n (c .before .before .before .before .args .z) (c .before .before .before .before .args .v) (c .before .before .before .before .args .p)) (c .before .before .match .keys2) (c .write .ensures ∙ ap₂ (written (c .before .before .before .before .args .p) (c .before .before .before .before .args .v)) (c .before .special .ensures) (c .before .before .before .add .ensures))
+returns-2 c = arm (λ (n : ℕ). systemDone n (c .before .before .before .before .before .args .z) (c .before .before .before .before .before .args .v) (c .before .before .before .before .before .args .p)) (c .before .before .match .keys2) (c .write .ensures ∙ ap₂ (written (c .before .before .before .before .before .args .p) (c .before .before .before .before .before .args .v)) (c .before .special .ensures) (c .before .before .before .before .add .ensures))
 
 returns-3 : tie.Need-returns-3
 unfolding systemDone
-returns-3 c = arm (λ (n : ℕ). systemDone n (c .before .before .before .before .args .z) (c .before .before .before .before .args .v) (c .before .before .before .before .args .p)) (c .before .before .match .keys3) (moved (λ (q : Processor). specialWritten q (c .before .before .before .before .args .z) (c .before .before .before .before .args .v)) (c .before .before .before .before .args .p) (c .before .before .before .add .ensures) (c .before .jump .ensures) (c .write-special .ensures))
+returns-3 c = arm (λ (n : ℕ). systemDone n (c .before .before .before .before .args .z) (c .before .before .before .before .args .v) (c .before .before .before .before .args .p)) (c .before .match .keys3) (moved (λ (q : Processor). specialWritten q (c .before .before .before .before .args .z) (c .before .before .before .before .args .v)) (c .before .before .before .before .args .p) (c .before .before .before .add .ensures) (c .before .before .jump .ensures) (c .write-special .ensures))
 
 returns-4 : tie.Need-returns-4
 unfolding systemDone
-returns-4 c = arm (λ (n : ℕ). systemDone n (c .before .before .before .before .args .z) (c .before .before .before .before .args .v) (c .before .before .before .before .args .p)) (c .before .before .match .keys4) (moved searched (c .before .before .before .before .args .p) (c .before .before .before .add .ensures) (c .before .jump2 .ensures) (c .search .ensures))
+returns-4 c = arm (λ (n : ℕ). systemDone n (c .before .before .before .before .args .z) (c .before .before .before .before .args .v) (c .before .before .before .before .args .p)) (c .before .match .keys4) (moved searched (c .before .before .before .before .args .p) (c .before .before .before .add .ensures) (c .before .before .jump .ensures) (c .search .ensures))
 
 returns-5 : tie.Need-returns-5
 unfolding systemDone
-returns-5 c = arm (λ (n : ℕ). systemDone n (c .before .before .before .before .args .z) (c .before .before .before .before .args .v) (c .before .before .before .before .args .p)) (c .before .before .match .keys5) (moved randomWritten (c .before .before .before .before .args .p) (c .before .before .before .add .ensures) (c .before .jump3 .ensures) (c .write-random .ensures))
+returns-5 c = arm (λ (n : ℕ). systemDone n (c .before .before .before .before .args .z) (c .before .before .before .before .args .v) (c .before .before .before .before .args .p)) (c .before .match .keys5) (moved randomWritten (c .before .before .before .before .args .p) (c .before .before .before .add .ensures) (c .before .before .jump .ensures) (c .write-random .ensures))
 
 returns-6 : tie.Need-returns-6
 unfolding systemDone
-returns-6 c = arm (λ (n : ℕ). systemDone n (c .before .before .before .before .args .z) (c .before .before .before .before .args .v) (c .before .before .before .before .args .p)) (c .before .before .match .keys6) (moved entryRead (c .before .before .before .before .args .p) (c .before .before .before .add .ensures) (c .before .jump4 .ensures) (c .read-indexed .ensures))
+returns-6 c = arm (λ (n : ℕ). systemDone n (c .before .before .before .before .args .z) (c .before .before .before .before .args .v) (c .before .before .before .before .args .p)) (c .before .match .keys6) (moved entryRead (c .before .before .before .before .args .p) (c .before .before .before .add .ensures) (c .before .before .jump .ensures) (c .read-indexed .ensures))
 
 returns-7 : tie.Need-returns-7
-returns-7 c = moved indexedWritten (c .before .before .before .before .args .p) (c .before .before .before .add .ensures) (c .before .jump5 .ensures) (c .write-indexed .ensures) ∙ last _ (c .before .before .before .before .args .z) (c .before .before .before .before .args .v) (c .before .before .before .before .args .p) (c .before .before .match .rest .0 .0 .0 .0 .0 .1) (c .before .before .match .rest .0 .0 .0 .0 .1) (c .before .before .match .rest .0 .0 .0 .1) (c .before .before .match .rest .0 .0 .1) (c .before .before .match .rest .0 .1) (c .before .before .match .rest .1)
+returns-7 c = moved indexedWritten (c .before .before .before .before .args .p) (c .before .before .before .add .ensures) (c .before .before .jump .ensures) (c .write-indexed .ensures) ∙ last _ (c .before .before .before .before .args .z) (c .before .before .before .before .args .v) (c .before .before .before .before .args .p) (c .before .match .rest .0 .0 .0 .0 .0 .1) (c .before .match .rest .0 .0 .0 .0 .1) (c .before .match .rest .0 .0 .0 .1) (c .before .match .rest .0 .0 .1) (c .before .match .rest .0 .1) (c .before .match .rest .1)
 
 pub system-spec : {M : Type 1} → statement M
 system-spec =
     tie.close
     (tie.spec
     add-requires
+    jump-requires
     leave-requires
     special-requires
     write-requires
-    jump-requires
     write-special-requires
-    jump-requires-2
     search-requires
-    jump-requires-3
     write-random-requires
-    jump-requires-4
     read-indexed-requires
-    jump-requires-5
     write-indexed-requires
     returns
     returns-2

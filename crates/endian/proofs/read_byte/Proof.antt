@@ -1,18 +1,15 @@
 -- `endian::read_byte` meets its contract, by the laws of Widths.
-use denote.Ref.{now}
-use borrow.Author.Needs.{needs}
+use mathlib.Core.Path.{sym, _∙_}
 use Rattle.endian.proofs.Widths.{byte-read}
+use borrow.Author.Needs.{needs}
 use Rattle.endian.proofs.read_byte.Statement.{statement}
 use Rattle.endian.proofs.read_byte.Tie as tie
 
-shared-slice-read-b : tie.Need-shared-slice-read-b
-shared-slice-read-b c = search needs
-
-wide-requires : tie.Need-wide-requires
-wide-requires c κs = search needs
+byte-at-requires : tie.Need-byte-at-requires
+byte-at-requires c κs = search needs
 
 returns : tie.Need-returns
-returns c = cc (byte-read (now (c .before .before .before .args .s)) (c .before .before .before .args .at))
+returns c = c .byte-at .ensures .0 ∙ sym (byte-read _ _)
 
 pub read-byte-spec : {M : Type 1} → statement M
-read-byte-spec = tie.close (tie.spec shared-slice-read-b wide-requires returns)
+read-byte-spec = tie.close (tie.spec byte-at-requires returns)

@@ -1,44 +1,29 @@
 -- `endian::read_half` meets its contract, by the laws of Widths.
-use native.Mathlib.Omega.{arith}
-use denote.Ref.{now}
-use borrow.Author.Needs.{needs}
+use mathlib.Core.Path.{sym}
 use Rattle.endian.proofs.Widths.{half-read}
+use borrow.Author.Needs.{needs}
 use Rattle.endian.proofs.read_half.Statement.{statement}
 use Rattle.endian.proofs.read_half.Tie as tie
 
-shared-slice-read-wide : tie.Need-shared-slice-read-wide
-shared-slice-read-wide c = search needs
+byte-at-requires : tie.Need-byte-at-requires
+byte-at-requires c κs = search needs
 
-wide-requires : tie.Need-wide-requires
-wide-requires c κs = search needs
+add-byte-at : tie.Need-add-byte-at
+add-byte-at c = search needs
+
+byte-at-requires-2 : tie.Need-byte-at-requires-2
+byte-at-requires-2 c κs = search needs
 
 mul-result : tie.Need-mul-result
 mul-result c = search needs
-
-add-wide : tie.Need-add-wide
-add-wide c = search needs
-
-shared-slice-read-wide-2 : tie.Need-shared-slice-read-wide-2
-shared-slice-read-wide-2 c = search needs
-
-wide-requires-2 : tie.Need-wide-requires-2
-wide-requires-2 c κs = search needs
 
 add-result : tie.Need-add-result
 add-result c = search needs
 
 returns : tie.Need-returns
-returns c = omega (arith, half-read (now (c .before .before .before .before .before .args .s)) (c .before .before .before .before .before .args .at))
+returns c = rw (c .before .byte-at .ensures .0, c .byte-at2 .ensures .0) (sym (half-read _ _))
 
 pub read-half-spec : {M : Type 1} → statement M
 read-half-spec =
     tie.close
-    (tie.spec
-    shared-slice-read-wide
-    wide-requires
-    mul-result
-    add-wide
-    shared-slice-read-wide-2
-    wide-requires-2
-    add-result
-    returns)
+    (tie.spec byte-at-requires add-byte-at byte-at-requires-2 mul-result add-result returns)

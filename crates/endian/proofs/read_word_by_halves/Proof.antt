@@ -1,84 +1,30 @@
 -- `endian::read_word_by_halves` meets its contract, by the laws of Widths.
+use Rattle.endian.proofs.Widths.{half-lt, word-halves}
 use native.Mathlib.Omega.{arith}
-use denote.Ref.{now}
-use Rattle.endian.proofs.Widths.{word-read}
+use mathlib.Core.Path.{sym}
 use borrow.Author.Needs.{needs}
 use Rattle.endian.proofs.read_word_by_halves.Statement.{statement}
 use Rattle.endian.proofs.read_word_by_halves.Tie as tie
 
-shared-slice-read-wide : tie.Need-shared-slice-read-wide
-shared-slice-read-wide c = search needs
+read-half-requires : tie.Need-read-half-requires
+read-half-requires c κs = search needs
 
-wide-requires : tie.Need-wide-requires
-wide-requires c κs = search needs
+add-read-half : tie.Need-add-read-half
+add-read-half c = search needs
 
-mul-high : tie.Need-mul-high
-mul-high c = search needs
-
-add-wide : tie.Need-add-wide
-add-wide c = search needs
-
-shared-slice-read-wide-2 : tie.Need-shared-slice-read-wide-2
-shared-slice-read-wide-2 c = search needs
-
-wide-requires-2 : tie.Need-wide-requires-2
-wide-requires-2 c κs = search needs
-
-add-high : tie.Need-add-high
-add-high c = search needs
-
-add-wide-2 : tie.Need-add-wide-2
-add-wide-2 c = search needs
-
-shared-slice-read-wide-3 : tie.Need-shared-slice-read-wide-3
-shared-slice-read-wide-3 c = search needs
-
-wide-requires-3 : tie.Need-wide-requires-3
-wide-requires-3 c κs = search needs
-
-mul-low : tie.Need-mul-low
-mul-low c = search needs
-
-add-wide-3 : tie.Need-add-wide-3
-add-wide-3 c = search needs
-
-shared-slice-read-wide-4 : tie.Need-shared-slice-read-wide-4
-shared-slice-read-wide-4 c = search needs
-
-wide-requires-4 : tie.Need-wide-requires-4
-wide-requires-4 c κs = search needs
-
-add-low : tie.Need-add-low
-add-low c = search needs
+read-half-requires-2 : tie.Need-read-half-requires-2
+read-half-requires-2 c κs = search needs
 
 mul-result : tie.Need-mul-result
-mul-result c = search needs
+mul-result c = omega (arith, half-lt _ _ _ (c .before .read-half .ensures) (λ j. c .before .before .shared-slice-known .given j .fits), half-lt _ _ _ (c .read-half2 .ensures) (λ j. c .before .before .shared-slice-known .given j .fits))
 
 add-result : tie.Need-add-result
-add-result c = search needs
+add-result c = omega (arith, half-lt _ _ _ (c .before .read-half .ensures) (λ j. c .before .before .shared-slice-known .given j .fits), half-lt _ _ _ (c .read-half2 .ensures) (λ j. c .before .before .shared-slice-known .given j .fits))
 
 returns : tie.Need-returns
-returns c = omega (arith, word-read (now (c .before .before .before .before .before .before .before .before .before .args .s)) (c .before .before .before .before .before .before .before .before .before .args .at))
+returns c = rw (c .before .read-half .ensures, c .read-half2 .ensures) (sym (word-halves _ _))
 
 pub read-word-by-halves-spec : {M : Type 1} → statement M
 read-word-by-halves-spec =
     tie.close
-    (tie.spec
-    shared-slice-read-wide
-    wide-requires
-    mul-high
-    add-wide
-    shared-slice-read-wide-2
-    wide-requires-2
-    add-high
-    add-wide-2
-    shared-slice-read-wide-3
-    wide-requires-3
-    mul-low
-    add-wide-3
-    shared-slice-read-wide-4
-    wide-requires-4
-    add-low
-    mul-result
-    add-result
-    returns)
+    (tie.spec read-half-requires add-read-half read-half-requires-2 mul-result add-result returns)

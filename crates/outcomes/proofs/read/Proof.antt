@@ -1,6 +1,6 @@
 -- `outcomes::read` meets its contract.
 use mathlib.Core.Path.{ap, ap₂, _∙_}
-use Rattle.outcomes.specs.Unchanged.{sameProcessor}
+use Rattle.machines.specs.Unchanged.{sameProcessor}
 use borrow.Author.Needs.{needs}
 use Rattle.outcomes.proofs.read.Statement.{statement}
 use Rattle.outcomes.proofs.read.Tie as tie

@@ -1,11 +1,6 @@
 -- `reads::fetch` meets its contract, by the laws of Faults.
-use mathlib.Core.Path.{ap, sym, _∙_}
-use denote.Ref.{now}
+use Rattle.reads.proofs.Faults.{to-a-fault, to-a-load}
 use borrow.Author.Needs.{needs}
-use Rattle.reads.specs.Reads.{answered, readThrough, readFrom}
-use Rattle.reads.specs.declared.Read.the-variants.{Fault}
-use Rattle.reads.proofs.Faults.{read-fault}
-use Rattle.memory.specs.Map.{memory}
 use Rattle.reads.proofs.fetch.Statement.{statement}
 use Rattle.reads.proofs.fetch.Tie as tie
 
@@ -19,25 +14,16 @@ eid-of-requires : tie.Need-eid-of-requires
 eid-of-requires c κs = search needs
 
 returns : tie.Need-returns
-unfolding readFrom
-returns c = ap Fault (c .eid-of .ensures) ∙ read-fault 4 (memory (now (c .before .before .before .before .before .before .args .ram)) (now (c .before .before .before .before .before .before .args .rom)) (now (c .before .before .before .before .before .before .args .belt))) (c .before .before .translate-at .result) (c .before .match .keys2) ∙ ap (readThrough 4 (memory (now (c .before .before .before .before .before .before .args .ram)) (now (c .before .before .before .before .before .before .args .rom)) (now (c .before .before .before .before .before .before .args .belt)))) (c .before .before .translate-at .ensures)
+returns c = to-a-fault 4 _ _ (c .before .before .translate-at .ensures) (c .before .match .keys2) (c .eid-of .ensures)
 
 load-word-requires : tie.Need-load-word-requires
 load-word-requires c κs = search needs
 
-enum-known-loaded : tie.Need-enum-known-loaded
-enum-known-loaded c = search needs
-
-enum-told : tie.Need-enum-told
-enum-told c = search needs
+brought-requires : tie.Need-brought-requires
+brought-requires c κs = search needs
 
 returns-2 : tie.Need-returns-2
-unfolding readFrom
-returns-2 c = sym (ap (readThrough 4 _) (sym (c .before .before .before .before .before .before .before .translate-at .ensures) ∙ c .before .before .before .before .before .place .given .1) ∙ ap answered (sym (c .before .before .before .load-word .ensures) ∙ c .before .loaded .given .1))
-
-returns-3 : tie.Need-returns-3
-unfolding readFrom
-returns-3 c = sym (ap (readThrough 4 _) (sym (c .before .before .before .before .before .before .translate-at .ensures) ∙ c .before .before .before .before .place .given .1) ∙ ap answered (sym (c .before .before .load-word .ensures) ∙ c .enum-told .given .1))
+returns-2 c = to-a-load 4 _ _ (c .before .before .before .before .before .translate-at .ensures) (c .before .before .before .place .given .1) (c .before .load-word .ensures) (c .brought .ensures)
 
 pub fetch-spec : {M : Type 1} → statement M
 fetch-spec =
@@ -48,7 +34,5 @@ fetch-spec =
     eid-of-requires
     returns
     load-word-requires
-    enum-known-loaded
-    enum-told
-    returns-2
-    returns-3)
+    brought-requires
+    returns-2)

@@ -1,0 +1,3 @@
+-- The laws of `machines`, in the order to read them.
+pub mod TestLaws
+pub mod Equal

@@ -1,0 +1,2 @@
+-- The definitions of `machines`.
+pub mod Unchanged

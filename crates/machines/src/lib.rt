@@ -1,0 +1,76 @@
+// Processors and machines compared.
+use processor::Processor;
+ghost use mathlib.Core.Path.{_≡_};
+ghost use Rattle.words.specs.Logic.{both};
+ghost use Rattle.slices.specs.Same.{same};
+ghost use Rattle.machines.specs.Unchanged.{sameSpecial, sameTlb, sameProcessor};
+
+fn same_special(p: Processor, q: Processor) -> bool
+    ensures { λ r. ⌜ r ≡ sameSpecial p q ⌝ }
+{
+    if p.psw != q.psw {
+        return false;
+    }
+    if p.index != q.index {
+        return false;
+    }
+    if p.entryhigh != q.entryhigh {
+        return false;
+    }
+    if p.entrylow != q.entrylow {
+        return false;
+    }
+    p.badaddress == q.badaddress
+}
+
+fn same_tlb(p: Processor, q: Processor) -> bool
+    ensures { λ r. ⌜ r ≡ sameTlb p q ⌝ }
+{
+    let highs = p.tlbhigh;
+    let other_highs = q.tlbhigh;
+    if !slices::same_words(&highs, &other_highs) {
+        return false;
+    }
+    let lows = p.tlblow;
+    let other_lows = q.tlblow;
+    if !slices::same_words(&lows, &other_lows) {
+        return false;
+    }
+    p.replacement == q.replacement
+}
+
+pub fn same_processor(p: Processor, q: Processor) -> bool
+    ensures { λ r. ⌜ r ≡ sameProcessor p q ⌝ }
+{
+    let registers = p.registers;
+    let others = q.registers;
+    if !slices::same_words(&registers, &others) {
+        return false;
+    }
+    if p.pc != q.pc {
+        return false;
+    }
+    if !same_special(p, q) {
+        return false;
+    }
+    same_tlb(p, q)
+}
+
+pub fn same_machine(
+    p: Processor,
+    ramcopy: &[u8],
+    beltcopy: &[u8],
+    q: Processor,
+    ram: &[u8],
+    belt: &[u8],
+) -> bool
+    ensures { λ r. ⌜ r ≡ both (sameProcessor p q) (both (same (now (ramcopy .entry)) (now (ram .entry))) (same (now (beltcopy .entry)) (now (belt .entry)))) ⌝ }
+{
+    if !same_processor(p, q) {
+        return false;
+    }
+    if !slices::same_bytes(ramcopy, ram) {
+        return false;
+    }
+    slices::same_bytes(beltcopy, belt)
+}

@@ -1,2 +1,0 @@
--- The definitions of `outcomes`.
-pub mod Unchanged

@@ -1,0 +1,2 @@
+-- The definitions of `part`.
+pub mod Part
