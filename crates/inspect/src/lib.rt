@@ -1,4 +1,4 @@
-// What the system instructions read: a special register (MVFS), and the TLB, searched (TBS) and read by index (TBRI).
+// What the system instructions read (manual, 3.6.3, 3.6.5 and 3.6.7): a special register (MVFS), and the TLB, searched (TBS) and read by index (TBRI).
 use processor::Processor;
 ghost use mathlib.Core.Path.{_≡_};
 ghost use Rattle.processor.specs.Register.{special};
