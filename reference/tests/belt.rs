@@ -1,8 +1,6 @@
 //! The belt example: the simulator runs both images.
 
-mod common;
-
-use common::{get, put, Numbers, Rig};
+use crate::common::{get, put, Numbers, Rig};
 use eco32_reference::asm::{j, tbwi};
 use eco32_reference::belt::barcode::KNOWN_CODES;
 use eco32_reference::belt::layout::*;

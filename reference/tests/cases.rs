@@ -1,7 +1,7 @@
 //! Document 01, "Cases", with the mistakes listed at the end of it.
 
-mod common;
-use common::{Rig, USER};
+use crate::common;
+use crate::common::{Rig, USER};
 use eco32_reference::{host, page_view, read_record, write_record, Processor};
 
 #[test]

@@ -1,7 +1,6 @@
 //! Each line of document 01, "Closed by us".
 
-mod common;
-use common::{put, Rig};
+use crate::common::{put, Rig};
 use eco32_reference::asm::*;
 use eco32_reference::{Processor, TlbEntry};
 

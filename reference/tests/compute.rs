@@ -1,7 +1,6 @@
 //! Computation instructions (manual 3.3).
 
-mod common;
-use common::Rig;
+use crate::common::Rig;
 use eco32_reference::asm::*;
 
 type Register = fn(u32, u32, u32) -> u32;

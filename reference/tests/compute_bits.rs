@@ -1,7 +1,6 @@
 //! Logic, shift and constant instructions (manual 3.3.17 to 3.3.31).
 
-mod common;
-use common::Rig;
+use crate::common::Rig;
 use eco32_reference::asm::*;
 
 type Register = fn(u32, u32, u32) -> u32;

@@ -1,7 +1,6 @@
 //! Control flow instructions (manual 3.4).
 
-mod common;
-use common::{put, Rig};
+use crate::common::{put, Rig};
 use eco32_reference::asm::*;
 
 type Branch = fn(u32, u32, i32) -> u32;

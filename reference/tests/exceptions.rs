@@ -1,8 +1,7 @@
 //! Exception entry and the order of faults (manual 2.8, document 01, "One
 //! step").
 
-mod common;
-use common::{put, Rig, USER};
+use crate::common::{put, Rig, USER};
 use eco32_reference::asm::*;
 
 #[test]

@@ -1,7 +1,7 @@
 //! Host calls on record bytes: order of checks, lent bytes, results.
 
-mod common;
-use common::{get, Numbers, Rig};
+use crate::common;
+use crate::common::{get, Numbers, Rig};
 use eco32_reference::asm::*;
 use eco32_reference::{host, write_record, Answer, Processor};
 

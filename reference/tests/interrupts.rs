@@ -1,7 +1,7 @@
 //! Interrupts (manual 2.7.3 and 2.8, document 01, "One step").
 
-mod common;
-use common::Rig;
+use crate::common;
+use crate::common::Rig;
 use eco32_reference::asm::*;
 
 /// Checks that the step accepts `channel` and has no effect but entry.

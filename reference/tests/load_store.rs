@@ -1,7 +1,6 @@
 //! Load and store instructions (manual 3.5).
 
-mod common;
-use common::{get, put, Rig};
+use crate::common::{get, put, Rig};
 use eco32_reference::asm::*;
 
 type Transfer = fn(u32, u32, i32) -> u32;

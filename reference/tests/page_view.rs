@@ -1,7 +1,7 @@
 //! Page views (document 01, "Runs and views").
 
-mod common;
-use common::Numbers;
+use crate::common;
+use crate::common::Numbers;
 use eco32_reference::{page_view, Processor, TlbEntry};
 
 /// RAM of three frames with a pattern that differs from frame to frame.

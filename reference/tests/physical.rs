@@ -1,7 +1,7 @@
 //! Physical memory (document 01, "What the host lends" and "Closed by us").
 
-mod common;
-use common::{get, put, Rig};
+use crate::common;
+use crate::common::{get, put, Rig};
 use eco32_reference::asm::*;
 use eco32_reference::{Fault, Memory, Width};
 

@@ -1,7 +1,6 @@
 //! The machine record (document 01, "What the host lends").
 
-mod common;
-use common::{put, Numbers};
+use crate::common::{put, Numbers};
 use eco32_reference::{read_record, write_record, Processor, RECORD_LENGTH};
 
 fn record_of(machine: &Processor) -> Vec<u8> {

@@ -1,7 +1,6 @@
 //! Runs by value (document 01, "Runs and views" and "Refused calls").
 
-mod common;
-use common::{get, Numbers, Rig};
+use crate::common::{get, Numbers, Rig};
 use eco32_reference::asm::*;
 use eco32_reference::{Answer, Memory, Processor};
 

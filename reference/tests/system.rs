@@ -1,7 +1,7 @@
 //! System instructions (manual 3.6) and the illegal opcodes.
 
-mod common;
-use common::Rig;
+use crate::common;
+use crate::common::Rig;
 use eco32_reference::asm::*;
 use eco32_reference::TlbEntry;
 

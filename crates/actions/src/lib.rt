@@ -10,9 +10,9 @@ pub fn store(ram: &mut [u8], rom: &[u8], belt: &mut [u8], width: u32, physical: 
     ensures { λ r. ⌜ memory (now (ram .exit)) (now (rom .entry)) (now (belt .exit)) ≡ memoryAfter (storeWidth width) (memory (now (ram .entry)) (now (rom .entry)) (now (belt .entry))) physical value ⌝ }
 {
     match width {
-        1 => stores::store_byte(ram, rom, belt, physical, value),
-        2 => stores::store_half(ram, rom, belt, physical, value),
-        _ => stores::store_word(ram, rom, belt, physical, value),
+        1 => byteaccess::store_byte(ram, rom, belt, physical, value),
+        2 => halfaccess::store_half(ram, rom, belt, physical, value),
+        _ => wordaccess::store_word(ram, rom, belt, physical, value),
     }
     ;
 }

@@ -11,7 +11,7 @@ pub fn get_words(s: &[u8], at: usize, stride: usize, words: &mut [u32])
 {
     let mut i = 0;
     while i < words.len() {
-        words[i] = endian::read_word(s, at + i * stride);
+        words[i] = endianword::read_word(s, at + i * stride);
         i += 1;
     }
 }

@@ -4,8 +4,8 @@ use Prim.Native.Nat.{ℕ}
 use lib.ListN.{length}
 use Rattle.state.specs.Machine.{Machine}
 use Rattle.machine.specs.Step.{stepOf, stepEid}
-use Rattle.belttext.specs.Text.{hexWord, lineOf}
-use Rattle.belttext.proofs.TextLaws.{eid-parts}
+use Rattle.beltline.specs.Text.{hexWord, lineOf}
+use Rattle.beltline.proofs.TextLaws.{eid-parts}
 use Rattle.beltstep.specs.Line.{stepLine}
 
 -- a line has 14 bytes

@@ -3,7 +3,7 @@ use mathlib.Core.List.{List}
 use Prim.Native.Nat.{ℕ}
 use Rattle.state.specs.Machine.{Machine}
 use Rattle.machine.specs.Step.{stepOf, stepEid}
-use Rattle.belttext.specs.Text.{lineOf}
+use Rattle.beltline.specs.Text.{lineOf}
 
 -- a step with lines 0 has the PC after it in its line, and the EID that it accepted
 unfoldable pub stepLine : ℕ → Machine → List ℕ

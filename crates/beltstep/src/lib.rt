@@ -23,7 +23,7 @@ pub fn advance(
 {
     let stepped = machine::step(p, ram, rom, belt, 0);
     let next = stepped.processor;
-    let row = belttext::line(step, next.pc, stepped.eid);
+    let row = beltline::line(step, next.pc, stepped.eid);
     belttext::put(text, at, &row);
     next
 }

@@ -1,25 +1,15 @@
--- The laws of the EID in a line, of a copy, and of a text in a buffer.
+-- The laws of a copy, and of a text in a buffer.
 use mathlib.Core.Path.{_≡_, refl}
 use mathlib.Core.Bool.{Bool, true, false, cond}
-use mathlib.Core.List.{List, [], _∷_, _++_}
-use Prim.Native.Nat.{ℕ, _+_, _/_, _<_, _≤_}
+use mathlib.Core.List.{List, _++_}
+use Prim.Native.Nat.{ℕ, _+_, _<_, _≤_}
 use lib.Dec.{ltb}
 use lib.ListN.{length, getD, set, drop}
 use lib.Seq.{paste, paste-suc}
 use native.Mathlib.Numerals.{add-one}
 use native.Mathlib.Omega.{arith}
 use borrow.Author.Tests.{ltb-false, lt-ltb, le-ltb}
-use Rattle.belttext.specs.Text.{decimalDigit, twoDigits, eidText, placed, countOf}
-
--- one test for both digits is one for each
-each : (t : Bool) (a b : ℕ) → cond t (a ∷ b ∷ []) (45 ∷ 45 ∷ []) ≡ cond t a 45 ∷ cond t b 45 ∷ []
-each true a b = refl
-each false a b = refl
-
-pub eid-parts : (eid : ℕ)
-    → eidText eid ≡ cond (ltb eid 32) (decimalDigit (eid / 10)) 45 ∷ cond (ltb eid 32) (decimalDigit eid) 45 ∷ []
-unfolding eidText twoDigits
-eid-parts eid = each (ltb eid 32) (decimalDigit (eid / 10)) (decimalDigit eid)
+use Rattle.belttext.specs.Text.{placed, countOf}
 
 -- one byte more of a copy
 pub one-more : (d : List ℕ) (at : ℕ) (s : List ℕ) (i : ℕ) {t : List ℕ} → t ≡ paste d at s i → at + i < length d → i < length s

@@ -1,62 +1,9 @@
-// The digits and the line of a step, and a text put into a buffer.
-ghost use mathlib.Core.Bool.{cond};
+// A text put into a buffer, and that for short input.
 ghost use mathlib.Core.Path.{_≡_};
-ghost use Prim.Native.Nat.{_+_, _%_, _≤_};
-ghost use lib.Dec.{ltb};
+ghost use Prim.Native.Nat.{_+_, _≤_};
 ghost use lib.ListN.{length};
 ghost use lib.Seq.{paste};
-ghost use Rattle.belttext.specs.Text.{hexDigit, decimalDigit, lineOf, shortInput, placed, countOf};
-
-// A digit, eight digits and two, with blanks between and a line feed.
-pub type Line = [u8; 14];
-
-// The lowest hexadecimal digit of a word.
-fn hex_digit(w: u32) -> u8
-    ensures { λ r. ⌜ r ≡ hexDigit (w % 16) ⌝ }
-{
-    let d = (w % 16) as u8;
-    if d < 10 {
-        return b'0' + d;
-    }
-    b'A' + (d - 10)
-}
-
-fn decimal_digit(n: u32) -> u8
-    ensures { λ r. ⌜ r ≡ decimalDigit n ⌝ }
-{
-    b'0' + (n % 10) as u8
-}
-
-// A digit of an EID, or a dash where there is none.
-fn eid_digit(eid: u32, n: u32) -> u8
-    ensures { λ r. ⌜ r ≡ cond (ltb eid 32) (decimalDigit n) 45 ⌝ }
-{
-    if eid < 32 {
-        return decimal_digit(n);
-    }
-    b'-'
-}
-
-pub fn line(step: u32, pc: u32, eid: u32) -> Line
-    ensures { λ r. ⌜ r ≡ lineOf step pc eid ⌝ }
-{
-    [
-        decimal_digit(step),
-        b' ',
-        hex_digit(pc / 0x1000_0000),
-        hex_digit(pc / 0x100_0000),
-        hex_digit(pc / 0x10_0000),
-        hex_digit(pc / 0x1_0000),
-        hex_digit(pc / 0x1000),
-        hex_digit(pc / 0x100),
-        hex_digit(pc / 0x10),
-        hex_digit(pc),
-        b' ',
-        eid_digit(eid, eid / 10),
-        eid_digit(eid, eid),
-        b'\n',
-    ]
-}
+ghost use Rattle.belttext.specs.Text.{shortInput, placed, countOf};
 
 pub fn put(text: &mut [u8], at: usize, bytes: &[u8])
     requires { ⌜ at + length (now bytes) ≤ length (now text) ⌝ }

@@ -1,18 +1,12 @@
--- The arms of the match on an opcode: a division by its value and its divisor; and the last, for 1E is illegal, and there is no opcode of this table from 20 on.
-use mathlib.Core.Path.{_≡_, refl, ap, sym, _∙_}
+-- The last arm of the match on an opcode: 1E is illegal, and there is no opcode of this table from 20 on.
+use mathlib.Core.Path.{_≡_, refl, ap, sym}
 use Prim.Native.Nat.{ℕ, _≤_}
 use native.Mathlib.Omega.{arith}
 use lib.ListN.{getD, List·getD-eq-default}
 use Rattle.words.proofs.Cases.{below-or-not}
 use Rattle.instructions.specs.Operands.{Operands, Simple, illegal}
-use Rattle.instructions.specs.declared.Action.{Action}
-use Rattle.compute.specs.Compute.{unlessZero, computations}
+use Rattle.compute.specs.Compute.{computations}
 use Rattle.instructions.proofs.Arms.{arm, Nots, beyond}
-
--- a divisor i, which the definition has as j
-pub division : (into : ℕ → Action) (quotient : ℕ → ℕ) {i j v : ℕ} {a : Action} → i ≡ j → v ≡ quotient i → a ≡ unlessZero i (into v)
-    → a ≡ unlessZero j (into (quotient j))
-division into quotient {i} e f g = g ∙ ap (λ (n : ℕ). unlessZero i (into n)) f ∙ ap (λ (n : ℕ). unlessZero n (into (quotient n))) e
 
 pub computation-illegal : (op : ℕ) (o : Operands) → 16 ≤ op → Nots op 16 14 → (op ≡ 31 → ⊥) → illegal o ≡ getD computations op illegal o
 unfolding computations

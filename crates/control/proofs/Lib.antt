@@ -1,3 +1,2 @@
--- The laws of `control`, in the order to read them.
+-- The laws of `control`.
 pub mod Arms
-pub mod Targets

@@ -1,25 +1,10 @@
--- The control flow instructions (manual, 3.4), a clause for each, and their opcodes 20 to 2D. Offsets count words from the PC after the fetch.
-use mathlib.Core.Bool.{Bool, cond}
+-- The control flow instructions (manual, 3.4), a clause for each, and their opcodes 20 to 2D.
 use mathlib.Core.List.{List, [], _∷_}
-use Prim.Native.Nat.{ℕ, _*_}
-use Rattle.words.specs.Numbers.{signExtend}
-use Rattle.sums.specs.Sums.{sum}
 use Rattle.comparison.specs.Comparison.{unsignedHolds, signedHolds}
 use Rattle.comparison.specs.declared.Order.the-variants.{Equal, NotEqual, LessOrEqual, Less, GreaterOrEqual, Greater}
 use Rattle.instructions.specs.Operands.{Simple}
-use Rattle.instructions.specs.declared.Action.{Action}
+use Rattle.branches.specs.Branches.{target, jumpTo, branch}
 use Rattle.instructions.specs.declared.Action.the-variants.{Write}
-
--- the target of the offset in the low bits of the instruction word
-unfoldable pub target : ℕ → ℕ → ℕ → ℕ
-target width word next = sum next (4 * signExtend width word)
-
--- a jump that links nothing: a write to register 0 has no effect
-abbrev pub jumpTo : ℕ → Action
-jumpTo pc = Write 0 0 pc
-
-unfoldable pub branch : Bool → ℕ → ℕ → Action
-branch holds word next = jumpTo (cond holds (target 16 word next) next)
 
 -- 3.4.1
 abbrev pub BEQ : Simple

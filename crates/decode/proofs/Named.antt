@@ -16,9 +16,11 @@ use Rattle.translation.specs.declared.Translation.{Translation}
 use Rattle.translation.specs.declared.Translation.the-variants.{Physical, TlbMiss, TlbWrite, TlbInvalid, IllegalAddress, PrivilegedAddress}
 use Rattle.instructions.specs.Operands.{Surroundings, Operands, Meaning, simple, fieldY}
 use Rattle.compute.specs.Compute.{unlessZero, computations}
-use Rattle.control.specs.Control.{branch, controls}
+use Rattle.control.specs.Control.{controls}
+use Rattle.branches.specs.Branches.{branch}
 use Rattle.reads.specs.Reads.{answered, readThrough, readFrom}
-use Rattle.transfer.specs.Transfer.{addressOf, landed, load, settled, storeThrough, storeTo, transfers}
+use Rattle.transfer.specs.Transfer.{addressOf, landed, load, transfers}
+use Rattle.writes.specs.Writes.{settled, storeThrough, storeTo}
 use Rattle.system.specs.System.{privileged, traps, systems}
 use Rattle.decode.specs.Table.{byPsw, executed}
 use Rattle.instructions.specs.declared.Action.{Action}

@@ -28,7 +28,7 @@ pub fn execute<'a>(
     let x = registers[xi];
     let y = registers[yi];
     match opcode {
-        0x00..=0x1F => compute::arithmetic(opcode, x, y, word, next),
+        0x00..=0x1F => arithmetic::arithmetic(opcode, x, y, word, next),
         0x20..=0x2D => control::flow(opcode - 0x20, x, y, word, next),
         0x2E..=0x2F => system::trap(opcode - 0x2E, psw, y, word),
         0x30..=0x37 => transfer::transfer(

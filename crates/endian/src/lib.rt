@@ -1,11 +1,11 @@
-// Big-endian numbers of one, two and four bytes read from a byte slice (manual, 2.1).
+// Big-endian numbers in a byte slice (manual, 2.1): their definition, and bytes and half-words read.
 ghost use mathlib.Core.Path.{_≡_};
 ghost use Prim.Native.Nat.{_+_, _≤_, _<_};
 ghost use lib.ListN.{length, getD};
 ghost use Rattle.endian.specs.BigEndian.{readAt};
 
-// One byte, and that it is below 256, for the sums below.
-fn byte_at(s: &[u8], at: usize) -> u32
+// One byte, and that it is below 256, for the sums of several.
+pub fn byte_at(s: &[u8], at: usize) -> u32
     requires { ⌜ at + 1 ≤ length (now s) ⌝ }
     ensures { λ r. ⌜ (r ≡ getD (now (s .entry)) at 0) × (r < 256) ⌝ }
 {
@@ -27,24 +27,4 @@ pub fn read_half(s: &[u8], at: usize) -> u32
     let high = byte_at(s, at);
     let low = byte_at(s, at + 1);
     high * 0x100 + low
-}
-
-pub fn read_word(s: &[u8], at: usize) -> u32
-    requires { ⌜ at + 4 ≤ length (now s) ⌝ }
-    ensures { λ r. ⌜ r ≡ readAt 4 (now (s .entry)) at ⌝ }
-{
-    byte_at(s, at) * 0x100_0000
-        + byte_at(s, at + 1) * 0x1_0000
-        + byte_at(s, at + 2) * 0x100
-        + byte_at(s, at + 3)
-}
-
-// The same number. Where words of two slices meet, each read in its own way stays one load in the compiled code.
-pub fn read_word_by_halves(s: &[u8], at: usize) -> u32
-    requires { ⌜ at + 4 ≤ length (now s) ⌝ }
-    ensures { λ r. ⌜ r ≡ readAt 4 (now (s .entry)) at ⌝ }
-{
-    let high = read_half(s, at);
-    let low = read_half(s, at + 2);
-    high * 0x1_0000 + low
 }

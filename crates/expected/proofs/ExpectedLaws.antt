@@ -1,6 +1,6 @@
 -- The expected machine, by the tests of the code.
 use mathlib.Core.Path.{_≡_, refl, ap, sym, _∙_}
-use mathlib.Core.Bool.{Bool, true, false, cond}
+use mathlib.Core.Bool.{Bool, true, false, cond, _&&_}
 use mathlib.Core.List.{List}
 use Prim.Native.Nat.{ℕ}
 use native.Mathlib.Omega.{arith}
@@ -21,63 +21,42 @@ use Rattle.expected.specs.Expected.{Expected, expected, recordAgrees, me
 -- ---- the record
 
 module _ (bytes : List ℕ) (p : Processor) (s : List ℕ) (refusal : ℕ) (e : refusal ≡ writeRefusal p s) where
-  unfit : (t u : Bool) → t ≡ true → refusal ≡ cond t (cond u 0 6) 4 → (refusal ≡ 0 → ⊥) → u ≡ false
-  unfit true true h f nonzero = absurd (nonzero f)
-  unfit true false h f nonzero = refl
-  unfit false u h f nonzero = cc
-
-  pub no-record : length s ≡ 414 → (refusal ≡ 0 → ⊥) → false ≡ recordAgrees bytes p
-  unfolding recordAgrees writeRefusal
-  no-record h nonzero = rw (unfit (eqb (length s) 414) (fit p) (eq-eqb _ _ h) e nonzero)
-
-  fit-written : (t u : Bool) → refusal ≡ cond t (cond u 0 6) 4 → refusal ≡ 0 → u ≡ true
-  fit-written true true f none = refl
-  fit-written true false f none = absurd (omega arith)
-  fit-written false true f none = refl
-  fit-written false false f none = absurd (omega arith)
+  refused : length s ≡ 414 → refusal ≡ cond (fit p) 0 6
+  unfolding writeRefusal
+  refused h = e ∙ rw (eq-eqb _ _ h)
 
   written-is : refusal ≡ 0 → bufferAfter p s ≡ recordOf p
   unfolding bufferAfter
   written-is none = rw (← e, none)
 
-  pub record-compared : (written : List ℕ) (v : Bool) → refusal ≡ 0 → written ≡ bufferAfter p s → v ≡ same written bytes
-      → v ≡ recordAgrees bytes p
-  unfolding recordAgrees writeRefusal
-  record-compared written v none f h =
-      h ∙ ap (λ (l : List ℕ). same l bytes) (f ∙ written-is none)
-      ∙ sym (ap (λ (t : Bool). both t (same (recordOf p) bytes)) (fit-written (eqb (length s) 414) (fit p) e none))
-
--- ---- the memory
-
-module _ (x m : Memory) where
-  pub ram-differs : same (m .ram) (x .ram) ≡ false → false ≡ memoryAgrees x m
-  unfolding memoryAgrees
-  ram-differs e = rw e
-
-  pub rom-differs : same (m .ram) (x .ram) ≡ true → same (m .rom) (x .rom) ≡ false → false ≡ memoryAgrees x m
-  unfolding memoryAgrees
-  rom-differs e f = rw (e, f)
-
-  pub belt-decides : (v : Bool) → same (m .ram) (x .ram) ≡ true → same (m .rom) (x .rom) ≡ true
-      → v ≡ same (m .belt) (x .belt) → v ≡ memoryAgrees x m
-  unfolding memoryAgrees
-  belt-decides v e f h = rw (e, f) h
+  pub record-compared : (written : List ℕ) (v : Bool) → length s ≡ 414 → written ≡ bufferAfter p s → v ≡ same written bytes
+      → eqb refusal 0 && v ≡ recordAgrees bytes p
+  unfolding recordAgrees
+  record-compared written v h f g = go (fit p) refl
+    where
+      go : (u : Bool) → fit p ≡ u → eqb refusal 0 && v ≡ both (fit p) (same (recordOf p) bytes)
+      go true k =
+          let none : refusal ≡ 0 = refused h ∙ rw k in
+          rw (none, k) (g ∙ ap (λ (l : List ℕ). same l bytes) (f ∙ written-is none))
+      go false k =
+          let unfit : refusal ≡ 6 = refused h ∙ rw k in
+          rw (unfit, k)
 
 -- ---- the whole machine, and the EID
 
-module _ (x : Expected) (wanted : ℕ) (m : Machine) (eid : ℕ) where
-  pub eid-differs : (eid ≡ wanted → ⊥) → false ≡ agrees x wanted m eid
-  unfolding agrees
-  eid-differs h = rw (ne-eqb eid wanted h)
+-- five tests in a row, as the code and as the definition join them
+joined : (a b c d e : Bool) → a && b && c && d && e ≡ both a (both b (both c (both d e)))
+joined true true true true e = refl
+joined true true true false e = refl
+joined true true false d e = refl
+joined true false c d e = refl
+joined false b c d e = refl
 
-  pub record-differs : eid ≡ wanted → recordAgrees (x .bytes) (m .processor) ≡ false → false ≡ agrees x wanted m eid
-  unfolding agrees
-  record-differs h e = rw (eq-eqb eid wanted h, e)
-
-  pub memory-decides : (v : Bool) → eid ≡ wanted → recordAgrees (x .bytes) (m .processor) ≡ true
-      → v ≡ memoryAgrees (x .memory) (m .memory) → v ≡ agrees x wanted m eid
-  unfolding agrees
-  memory-decides v h e f = rw (eq-eqb eid wanted h, e) f
+pub all-compared : (x : Expected) (wanted : ℕ) (m : Machine) (eid : ℕ) {t u v w : Bool} → t ≡ recordAgrees (x .bytes) (m .processor)
+    → u ≡ same (m .memory .ram) (x .memory .ram) → v ≡ same (m .memory .rom) (x .memory .rom) → w ≡ same (m .memory .belt) (x .memory .belt)
+    → eqb eid wanted && t && u && v && w ≡ agrees x wanted m eid
+unfolding agrees memoryAgrees
+all-compared x wanted m eid {t} {u} {v} {w} e f g h = joined (eqb eid wanted) t u v w ∙ rw (e, f, g, h)
 
 -- ---- cleared, patched, started
 

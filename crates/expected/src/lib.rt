@@ -1,9 +1,8 @@
 // The expected machine, whose slices are named by an x: cleared and patched, and compared with the model's.
 use processor::Processor;
 ghost use mathlib.Core.Path.{_≡_};
-ghost use Rattle.memory.specs.Map.{memory};
 ghost use Rattle.state.specs.Machine.{machine};
-ghost use Rattle.expected.specs.Expected.{expected, clear, patchFits, patched, recordAgrees, memoryAgrees, agrees};
+ghost use Rattle.expected.specs.Expected.{expected, clear, patchFits, patched, recordAgrees, agrees};
 
 const RECORD: usize = 414;
 
@@ -45,29 +44,7 @@ fn record_agrees(p: Processor, xrecord: &[u8]) -> bool
 {
     let mut written = [0u8; RECORD];
     let refusal = record::write(p, &mut written);
-    if refusal != 0 {
-        return false;
-    }
-    slices::same_bytes(&written, xrecord)
-}
-
-fn memory_agrees(
-    ram: &[u8],
-    rom: &[u8],
-    belt: &[u8],
-    xram: &[u8],
-    xrom: &[u8],
-    xbelt: &[u8],
-) -> bool
-    ensures { λ r. ⌜ r ≡ memoryAgrees (memory (now (xram .entry)) (now (xrom .entry)) (now (xbelt .entry))) (memory (now (ram .entry)) (now (rom .entry)) (now (belt .entry))) ⌝ }
-{
-    if !slices::same_bytes(ram, xram) {
-        return false;
-    }
-    if !slices::same_bytes(rom, xrom) {
-        return false;
-    }
-    slices::same_bytes(belt, xbelt)
+    (refusal == 0) & slices::same_bytes(&written, xrecord)
 }
 
 // The EID, the record and all memory.
@@ -85,11 +62,9 @@ pub fn agree(
 ) -> bool
     ensures { λ r. ⌜ r ≡ agrees (expected (now (xrecord .entry)) (now (xram .entry)) (now (xrom .entry)) (now (xbelt .entry))) wanted (machine p (now (ram .entry)) (now (rom .entry)) (now (belt .entry))) eid ⌝ }
 {
-    if eid != wanted {
-        return false;
-    }
-    if !record_agrees(p, xrecord) {
-        return false;
-    }
-    memory_agrees(ram, rom, belt, xram, xrom, xbelt)
+    (eid == wanted)
+        & record_agrees(p, xrecord)
+        & slices::same_bytes(ram, xram)
+        & slices::same_bytes(rom, xrom)
+        & slices::same_bytes(belt, xbelt)
 }

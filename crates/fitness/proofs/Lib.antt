@@ -1,2 +1,2 @@
 -- The laws of `fitness`.
-pub mod Loop
+pub mod Tests

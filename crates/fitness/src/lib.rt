@@ -2,7 +2,6 @@
 use processor::Processor;
 use processor::Words;
 ghost use mathlib.Core.Path.{_≡_};
-ghost use lib.Dec.{leb};
 ghost use Rattle.words.specs.Logic.{both};
 ghost use Rattle.kept.specs.Kept.{keptHigh, keptLow, onlySpecial, onlyFrom};
 ghost use Rattle.processor.specs.State.{fit};
@@ -11,80 +10,25 @@ ghost use Rattle.processor.specs.State.{fit};
 fn only_special(psw: u32, index: u32, high: u32, low: u32) -> bool
     ensures { λ r. ⌜ r ≡ onlySpecial psw index high low ⌝ }
 {
-    if kept::kept_psw(psw) != psw {
-        return false;
-    }
-    if kept::kept_index(index) != index {
-        return false;
-    }
-    if kept::kept_high(high) != high {
-        return false;
-    }
-    kept::kept_low(low) == low
-}
-
-fn only_high(words: &Words) -> bool
-    ensures { λ r. ⌜ r ≡ onlyFrom keptHigh 32 (now (words .entry)) 0 ⌝ }
-{
-    let mut i: usize = 0;
-    while i < 32 {
-        let w = words[i];
-        if kept::kept_high(w) != w {
-            return false;
-        }
-        i += 1;
-    }
-    true
-}
-
-fn only_low(words: &Words) -> bool
-    ensures { λ r. ⌜ r ≡ onlyFrom keptLow 32 (now (words .entry)) 0 ⌝ }
-{
-    let mut i: usize = 0;
-    while i < 32 {
-        let w = words[i];
-        if kept::kept_low(w) != w {
-            return false;
-        }
-        i += 1;
-    }
-    true
+    (kept::kept_psw(psw) == psw)
+        & (kept::kept_index(index) == index)
+        & (kept::kept_high(high) == high)
+        & (kept::kept_low(low) == low)
 }
 
 // The same for the high words and the low words of a TLB.
-fn only_words(high: &Words, low: &Words) -> bool
-    ensures { λ r. ⌜ r ≡ both (onlyFrom keptHigh 32 (now (high .entry)) 0) (onlyFrom keptLow 32 (now (low .entry)) 0) ⌝ }
+fn only_words(highs: &Words, lows: &Words) -> bool
+    ensures { λ r. ⌜ r ≡ both (onlyFrom keptHigh 32 (now (highs .entry)) 0) (onlyFrom keptLow 32 (now (lows .entry)) 0) ⌝ }
 {
-    if only_high(high) {
-        return only_low(low);
+    let mut only = true;
+    let mut i: usize = 0;
+    while i < 32 {
+        let high = highs[i];
+        let low = lows[i];
+        only = only & (kept::kept_high(high) == high) & (kept::kept_low(low) == low);
+        i += 1;
     }
-    false
-}
-
-// Whether a number is in a range, its ends included.
-fn between(v: u32, least: u32, most: u32) -> bool
-    ensures { λ r. ⌜ r ≡ both (leb least v) (leb v most) ⌝ }
-{
-    if v < least {
-        return false;
-    }
-    v <= most
-}
-
-// Whether four tests all pass.
-fn all(a: bool, b: bool, c: bool, d: bool) -> bool
-    ensures { λ r. ⌜ r ≡ both a (both b (both c d)) ⌝ }
-{
-    if a {
-        if b {
-            if c {
-                return d;
-            }
-            return false;
-        }
-        return false;
-    }
-    false
+    only
 }
 
 pub fn is_fit(p: Processor) -> bool
@@ -93,10 +37,9 @@ pub fn is_fit(p: Processor) -> bool
     let registers = p.registers;
     let tlbhigh = p.tlbhigh;
     let tlblow = p.tlblow;
-    all(
-        registers[0] == 0,
-        between(p.replacement, 4, 31),
-        only_special(p.psw, p.index, p.entryhigh, p.entrylow),
-        only_words(&tlbhigh, &tlblow),
-    )
+    (registers[0] == 0)
+        & (4 <= p.replacement)
+        & (p.replacement <= 31)
+        & only_special(p.psw, p.index, p.entryhigh, p.entrylow)
+        & only_words(&tlbhigh, &tlblow)
 }

@@ -7,7 +7,8 @@ use Rattle.instructions.specs.Operands.{Surroundings, surroundings, Operands, S
 use Rattle.compute.specs.Compute.{computations}
 use Rattle.control.specs.Control.{controls}
 use Rattle.reads.specs.Reads.{readFrom}
-use Rattle.transfer.specs.Transfer.{addressOf, landed, load, storeTo, transfers}
+use Rattle.transfer.specs.Transfer.{addressOf, landed, load, transfers}
+use Rattle.writes.specs.Writes.{storeTo}
 use Rattle.system.specs.System.{SystemMeaning, traps, systems}
 use Rattle.decode.specs.Table.{byPsw, executed}
 use Rattle.words.specs.Lists.{Every}

@@ -21,7 +21,7 @@ use Rattle.translation.specs.declared.Translation.the-variants.{Physical, TlbMi
 use Rattle.translation.proofs.Granted.{Granted, user-granted}
 use Rattle.instructions.specs.Operands.{Surroundings, surroundings}
 use Rattle.reads.specs.Reads.{answered, readThrough, readFrom}
-use Rattle.transfer.specs.Transfer.{settled, storeThrough, storeTo}
+use Rattle.writes.specs.Writes.{settled, storeThrough, storeTo}
 use Rattle.instructions.specs.declared.Action.{Action}
 use Rattle.instructions.specs.declared.Action.the-variants.{Exception}
 use Rattle.reads.specs.declared.Read.{Read}

@@ -14,9 +14,11 @@ use Rattle.translation.specs.declared.Translation.{Translation}
 use Rattle.translation.specs.declared.Translation.the-variants.{Physical, TlbMiss, TlbWrite, TlbInvalid, IllegalAddress, PrivilegedAddress}
 use Rattle.instructions.specs.Operands.{Surroundings, Operands, Simple, Meaning, simple, illegal, opcodeOf, fieldY}
 use Rattle.compute.specs.Compute.{unlessZero, computations}
-use Rattle.control.specs.Control.{branch, controls}
+use Rattle.control.specs.Control.{controls}
+use Rattle.branches.specs.Branches.{branch}
 use Rattle.reads.specs.Reads.{readFrom}
-use Rattle.transfer.specs.Transfer.{addressOf, landed, load, settled, storeThrough, storeTo, transfers}
+use Rattle.transfer.specs.Transfer.{addressOf, landed, load, transfers}
+use Rattle.writes.specs.Writes.{settled, storeThrough, storeTo}
 use Rattle.system.specs.System.{SystemMeaning, privileged, traps, systems}
 use Rattle.decode.specs.Table.{byPsw, executed}
 use Rattle.instructions.specs.declared.Action.{Action}

@@ -10,15 +10,9 @@ use lib.ListN.{length, getD, set}
 use lib.Seq.{getD-set-same, getD-set-other, set-out}
 use borrow.Author.Tests.{eqb-true, eqb-false, eq-eqb}
 use Rattle.words.proofs.Cases.{below-or-not}
+use Rattle.words.proofs.Conjunction.{both-true, true-both}
 use Rattle.words.specs.Logic.{both}
 use Rattle.kept.specs.Kept.{keptPsw, keptIndex, keptHigh, keptLow, only, onlySpecial, onlyFrom}
-
-pub both-true : (t u : Bool) → both t u ≡ true → (t ≡ true) × (u ≡ true)
-both-true true u e = (refl, e)
-both-true false u e = absurd (let z : _≡_ {A = ℕ} 0 1 = cc in omega arith)
-
-pub true-both : (t u : Bool) → t ≡ true → u ≡ true → both t u ≡ true
-true-both t u e f = rw (e, f)
 
 -- the special registers tested first, and then what is left
 pub special-first : (psw index high low : ℕ) (rest : Bool)

@@ -24,9 +24,11 @@ use Rattle.processor.specs.Tlb.{entryWritten, indexedWritten}
 use Rattle.translation.specs.Translation.{valid, writable, through, mapped, forbidden, translated}
 use Rattle.interrupt.specs.Interrupt.{lowest, channel}
 use Rattle.compute.specs.Compute.{unlessZero, computations}
-use Rattle.control.specs.Control.{target, branch, controls}
+use Rattle.control.specs.Control.{controls}
+use Rattle.branches.specs.Branches.{target, branch}
 use Rattle.reads.specs.Reads.{readFrom}
-use Rattle.transfer.specs.Transfer.{load, storeTo, transfers}
+use Rattle.transfer.specs.Transfer.{load, transfers}
+use Rattle.writes.specs.Writes.{storeTo}
 use Rattle.system.specs.System.{privileged, traps, systems}
 use Rattle.decode.specs.Table.{meanings, executed}
 use Rattle.state.specs.Machine.{Machine, machine}

@@ -8,19 +8,11 @@ ghost use Rattle.machines.specs.Unchanged.{sameSpecial, sameTlb, samePro
 fn same_special(p: Processor, q: Processor) -> bool
     ensures { λ r. ⌜ r ≡ sameSpecial p q ⌝ }
 {
-    if p.psw != q.psw {
-        return false;
-    }
-    if p.index != q.index {
-        return false;
-    }
-    if p.entryhigh != q.entryhigh {
-        return false;
-    }
-    if p.entrylow != q.entrylow {
-        return false;
-    }
-    p.badaddress == q.badaddress
+    (p.psw == q.psw)
+        & (p.index == q.index)
+        & (p.entryhigh == q.entryhigh)
+        & (p.entrylow == q.entrylow)
+        & (p.badaddress == q.badaddress)
 }
 
 fn same_tlb(p: Processor, q: Processor) -> bool
@@ -28,15 +20,11 @@ fn same_tlb(p: Processor, q: Processor) -> bool
 {
     let highs = p.tlbhigh;
     let other_highs = q.tlbhigh;
-    if !slices::same_words(&highs, &other_highs) {
-        return false;
-    }
     let lows = p.tlblow;
     let other_lows = q.tlblow;
-    if !slices::same_words(&lows, &other_lows) {
-        return false;
-    }
-    p.replacement == q.replacement
+    slices::same_words(&highs, &other_highs)
+        & slices::same_words(&lows, &other_lows)
+        & (p.replacement == q.replacement)
 }
 
 pub fn same_processor(p: Processor, q: Processor) -> bool
@@ -44,16 +32,7 @@ pub fn same_processor(p: Processor, q: Processor) -> bool
 {
     let registers = p.registers;
     let others = q.registers;
-    if !slices::same_words(&registers, &others) {
-        return false;
-    }
-    if p.pc != q.pc {
-        return false;
-    }
-    if !same_special(p, q) {
-        return false;
-    }
-    same_tlb(p, q)
+    slices::same_words(&registers, &others) & (p.pc == q.pc) & same_special(p, q) & same_tlb(p, q)
 }
 
 pub fn same_machine(
@@ -66,11 +45,5 @@ pub fn same_machine(
 ) -> bool
     ensures { λ r. ⌜ r ≡ both (sameProcessor p q) (both (same (now (ramcopy .entry)) (now (ram .entry))) (same (now (beltcopy .entry)) (now (belt .entry)))) ⌝ }
 {
-    if !same_processor(p, q) {
-        return false;
-    }
-    if !slices::same_bytes(ramcopy, ram) {
-        return false;
-    }
-    slices::same_bytes(beltcopy, belt)
+    same_processor(p, q) & slices::same_bytes(ramcopy, ram) & slices::same_bytes(beltcopy, belt)
 }

@@ -6,6 +6,7 @@ use native.Mathlib.Omega.{arith}
 use lib.Dec.{leb, eqb}
 use borrow.Author.Tests.{leb-true, leb-false, le-leb, lt-leb, eqb-true, eq-eqb, ne-eqb}
 use Rattle.words.specs.Logic.{both}
+use Rattle.words.proofs.Conjunction.{both-true}
 use Rattle.memory.specs.Map.{within, locate, wordsOnly, placeOf, romBase, beltBase}
 use Rattle.memory.specs.declared.Place.{Place}
 use Rattle.memory.specs.declared.Place.the-variants.{Ram, Rom, Belt, Nothing}
@@ -19,10 +20,6 @@ within-not base n w a h = simp (lt-leb base a h)
 pub within-by-end : (base n w a : ℕ) → base ≤ a → within base n w a ≡ leb (a - base + w) n
 unfolding within
 within-by-end base n w a h = simp (le-leb base a h)
-
-both-true : (t u : Bool) → both t u ≡ true → (t ≡ true) × (u ≡ true)
-both-true true u e = (refl, e)
-both-true false u e = absurd (let z : _≡_ {A = ℕ} 0 1 = cc in omega arith)
 
 pub within-true : (base n w a : ℕ) → within base n w a ≡ true → (base ≤ a) × (a - base + w ≤ n)
 unfolding within

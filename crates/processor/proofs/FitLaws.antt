@@ -6,8 +6,9 @@ use lib.Dec.{eqb, leb}
 use lib.ListN.{getD}
 use borrow.Author.Tests.{eqb-true, eq-eqb, leb-true, le-leb}
 use Rattle.words.specs.Logic.{both}
+use Rattle.words.proofs.Conjunction.{both-true, true-both}
 use Rattle.kept.specs.Kept.{keptPsw, keptIndex, keptHigh, keptLow, onlySpecial, onlyFrom}
-use Rattle.kept.proofs.OnlyLaws.{both-true, true-both, special-first, Only, only-means, means-only}
+use Rattle.kept.proofs.OnlyLaws.{special-first, Only, only-means, means-only}
 use Rattle.processor.specs.State.{fit}
 use Rattle.processor.specs.declared.Processor.{Processor}
 

@@ -1,16 +1,11 @@
 -- A read by what its translation came to: a fault, or what the load at the physical address brought.
 use mathlib.Core.Path.{_≡_, refl, ap, sym, _∙_}
 use mathlib.Core.Bool.{false}
-use mathlib.Core.Logic.{⊎-elim}
-use mathlib.Core.List.{List, [], _∷_}
 use Prim.Native.Nat.{ℕ}
-use native.Mathlib.Omega.{arith}
-use types.Run.{OneOf}
-use denote.Enum.Declared.{tagOf}
-use Rattle.translation.proofs.Translation as T
 use Rattle.translation.specs.Translation.{translated, translationEid}
 use Rattle.translation.specs.declared.Translation.{Translation}
 use Rattle.translation.specs.declared.Translation.the-variants.{Physical, TlbMiss, TlbWrite, TlbInvalid, IllegalAddress, PrivilegedAddress}
+use Rattle.faults.proofs.Faulty.{IsFault, not-physical}
 use Rattle.memory.specs.Map.{Memory}
 use Rattle.memory.specs.Access.{loadOf}
 use Rattle.memory.specs.declared.Loaded.{Loaded}
@@ -18,14 +13,6 @@ use Rattle.instructions.specs.Operands.{Surroundings}
 use Rattle.reads.specs.Reads.{answered, readThrough, readFrom}
 use Rattle.reads.specs.declared.Read.{Read}
 use Rattle.reads.specs.declared.Read.the-variants.{Fault}
-
--- the tag of a variant that is none of the faults
-abbrev pub IsFault : Translation → Type 0
-IsFault t = OneOf (1 ∷ 2 ∷ 3 ∷ 4 ∷ 5 ∷ []) (tagOf T.the-type t)
-
-pub not-physical : (x : ℕ) → IsFault (Physical x) → ⊥
-not-physical x h =
-    ⊎-elim (λ e. omega arith) (⊎-elim (λ e. omega arith) (⊎-elim (λ e. omega arith) (⊎-elim (λ e. omega arith) (λ e. omega arith)))) h
 
 pub read-fault : (width : ℕ) (m : Memory) (t : Translation) → IsFault t → Fault (translationEid t) ≡ readThrough width m t
 read-fault width m (Physical x) h = absurd (not-physical x h)

@@ -37,11 +37,11 @@ pub fn read_byte<'a>(
 ) -> Read
     ensures { λ r. ⌜ r ≡ readFrom 1 (surroundings psw (now (highs .entry)) (now (lows .entry)) (memory (now (ram .entry)) (now (rom .entry)) (now (belt .entry)))) address ⌝ }
 {
-    let place = translation::translate(psw, highs, lows, Width::Byte, false, address);
+    let place = translate::translate(psw, highs, lows, Width::Byte, false, address);
     let Translation::Physical(physical) = place else {
-        return Read::Fault(translation::eid_of(place));
+        return Read::Fault(faults::eid_of(place));
     };
-    brought(loads::load_byte(ram, rom, belt, physical))
+    brought(byteaccess::load_byte(ram, rom, belt, physical))
 }
 
 pub fn read_half<'a>(
@@ -55,11 +55,11 @@ pub fn read_half<'a>(
 ) -> Read
     ensures { λ r. ⌜ r ≡ readFrom 2 (surroundings psw (now (highs .entry)) (now (lows .entry)) (memory (now (ram .entry)) (now (rom .entry)) (now (belt .entry)))) address ⌝ }
 {
-    let place = translation::translate(psw, highs, lows, Width::Half, false, address);
+    let place = translate::translate(psw, highs, lows, Width::Half, false, address);
     let Translation::Physical(physical) = place else {
-        return Read::Fault(translation::eid_of(place));
+        return Read::Fault(faults::eid_of(place));
     };
-    brought(loads::load_half(ram, rom, belt, physical))
+    brought(halfaccess::load_half(ram, rom, belt, physical))
 }
 
 pub fn read_word<'a>(
@@ -73,11 +73,11 @@ pub fn read_word<'a>(
 ) -> Read
     ensures { λ r. ⌜ r ≡ readFrom 4 (surroundings psw (now (highs .entry)) (now (lows .entry)) (memory (now (ram .entry)) (now (rom .entry)) (now (belt .entry)))) address ⌝ }
 {
-    let place = translation::translate(psw, highs, lows, Width::Word, false, address);
+    let place = translate::translate(psw, highs, lows, Width::Word, false, address);
     let Translation::Physical(physical) = place else {
-        return Read::Fault(translation::eid_of(place));
+        return Read::Fault(faults::eid_of(place));
     };
-    brought(loads::load_word(ram, rom, belt, physical))
+    brought(wordaccess::load_word(ram, rom, belt, physical))
 }
 
 // The instruction word at the PC, whose page has the index `i`.
@@ -94,9 +94,9 @@ pub fn fetch<'a>(
     requires { ⌜ Serves (now highs) i pc ⌝ }
     ensures { λ r. ⌜ r ≡ readFrom 4 (surroundings psw (now (highs .entry)) (now (lows .entry)) (memory (now (ram .entry)) (now (rom .entry)) (now (belt .entry)))) pc ⌝ }
 {
-    let place = translation::translate_at(psw, highs, lows, i, Width::Word, false, pc);
+    let place = translate::translate_at(psw, highs, lows, i, Width::Word, false, pc);
     let Translation::Physical(physical) = place else {
-        return Read::Fault(translation::eid_of(place));
+        return Read::Fault(faults::eid_of(place));
     };
-    brought(loads::load_word(ram, rom, belt, physical))
+    brought(wordaccess::load_word(ram, rom, belt, physical))
 }

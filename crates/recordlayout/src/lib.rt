@@ -40,19 +40,11 @@ pub fn kinds_in_place(s: &[u8]) -> bool
     requires { ⌜ length (now s) ≡ 414 ⌝ }
     ensures { λ r. ⌜ r ≡ kindsInPlace (now (s .entry)) ⌝ }
 {
-    if endian::read_byte(s, REGISTERS_KIND_AT) != 1 {
-        return false;
-    }
-    if endian::read_byte(s, PC_KIND_AT) != 2 {
-        return false;
-    }
-    if endian::read_byte(s, SPECIAL_KIND_AT) != 3 {
-        return false;
-    }
-    if endian::read_byte(s, TLB_KIND_AT) != 4 {
-        return false;
-    }
-    endian::read_byte(s, REPLACEMENT_KIND_AT) == 5
+    (endian::read_byte(s, REGISTERS_KIND_AT) == 1)
+        & (endian::read_byte(s, PC_KIND_AT) == 2)
+        & (endian::read_byte(s, SPECIAL_KIND_AT) == 3)
+        & (endian::read_byte(s, TLB_KIND_AT) == 4)
+        & (endian::read_byte(s, REPLACEMENT_KIND_AT) == 5)
 }
 
 // The processor that 414 bytes hold.
@@ -68,12 +60,12 @@ pub fn get(s: &[u8]) -> Processor
     arrays::get_words(s, TLB_LOW_AT, 8, &mut tlblow);
     Processor {
         registers: registers,
-        pc: endian::read_word(s, PC_AT),
-        psw: endian::read_word(s, PSW_AT),
-        index: endian::read_word(s, INDEX_AT),
-        entryhigh: endian::read_word(s, ENTRY_HIGH_AT),
-        entrylow: endian::read_word(s, ENTRY_LOW_AT),
-        badaddress: endian::read_word(s, BAD_ADDRESS_AT),
+        pc: endianword::read_word(s, PC_AT),
+        psw: endianword::read_word(s, PSW_AT),
+        index: endianword::read_word(s, INDEX_AT),
+        entryhigh: endianword::read_word(s, ENTRY_HIGH_AT),
+        entrylow: endianword::read_word(s, ENTRY_LOW_AT),
+        badaddress: endianword::read_word(s, BAD_ADDRESS_AT),
         tlbhigh: tlbhigh,
         tlblow: tlblow,
         replacement: endian::read_byte(s, REPLACEMENT_AT),

@@ -1,26 +1,18 @@
 -- The checks, by the tests of the code.
 use mathlib.Core.Path.{_≡_, refl}
-use mathlib.Core.Bool.{Bool, true, false}
+use mathlib.Core.Bool.{Bool, true, false, _&&_}
 use Prim.Native.Nat.{ℕ, _%_, _≤_, _<_}
 use native.Mathlib.Omega.{arith}
 use lib.Dec.{leb, eqb}
 use borrow.Author.Tests.{le-leb, lt-leb, eq-eqb, ne-eqb}
+use Rattle.words.proofs.Conjunction.{three}
 use Rattle.refusal.specs.Refusal.{check, pagesUpTo, ramAccepted, romAccepted, beltAccepted, lengthsChecked, stepsChecked}
 
 -- ---- a length
 
-module _ (limit n : ℕ) where
-  pub pages-short : n < 4096 → false ≡ pagesUpTo limit n
-  unfolding pagesUpTo
-  pages-short h = simp (lt-leb 4096 n h)
-
-  pub pages-long : 4096 ≤ n → limit < n → false ≡ pagesUpTo limit n
-  unfolding pagesUpTo
-  pages-long h k = simp (le-leb 4096 n h, lt-leb n limit k)
-
-  pub pages-whole : 4096 ≤ n → n ≤ limit → eqb (n % 4096) 0 ≡ pagesUpTo limit n
-  unfolding pagesUpTo
-  pages-whole h k = simp (le-leb 4096 n h, le-leb n limit k)
+pub pages : (limit n : ℕ) → (leb 4096 n && leb n limit) && eqb (n % 4096) 0 ≡ pagesUpTo limit n
+unfolding pagesUpTo
+pages limit n = three (leb 4096 n) (leb n limit) (eqb (n % 4096) 0)
 
 -- ---- the three lengths
 

@@ -25,13 +25,7 @@ const MOST_STEPS: u64 = 1_000_000;
 fn whole_pages(n: usize, limit: usize) -> bool
     ensures { λ r. ⌜ r ≡ pagesUpTo limit n ⌝ }
 {
-    if n < 4096 {
-        return false;
-    }
-    if limit < n {
-        return false;
-    }
-    n % 4096 == 0
+    (4096 <= n) & (n <= limit) & (n % 4096 == 0)
 }
 
 pub fn ram_accepted(n: usize) -> bool

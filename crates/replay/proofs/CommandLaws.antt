@@ -1,12 +1,12 @@
 -- A command of each kind, and the commands one after the other.
-use mathlib.Core.Path.{_≡_, refl, ap, _∙_}
-use mathlib.Core.Bool.{Bool, true, false, cond}
+use mathlib.Core.Path.{_≡_, refl, ap, sym, _∙_}
+use mathlib.Core.Bool.{Bool, true, false, cond, not, _&&_, true≢false, false≢true}
 use mathlib.Core.List.{List}
 use Prim.Native.Nat.{ℕ, suc, _+_, _*_, _-_, _/_, _%_, _≤_, _<_}
 use native.Mathlib.Omega.{arith}
-use lib.Dec.{eqb}
+use lib.Dec.{leb, eqb}
 use lib.ListN.{length}
-use borrow.Author.Tests.{ne-eqb, eqb-true, eqb-false}
+use borrow.Author.Tests.{leb-true, le-leb, ne-eqb, eqb-true, eqb-false}
 use Rattle.endian.specs.BigEndian.{readAt}
 use Rattle.state.specs.Machine.{Machine}
 use Rattle.machine.specs.Step.{stepOf, stepEid}
@@ -18,6 +18,20 @@ use Rattle.replaystep.specs.Tallies.{Tallies, opcodeAt, tallied}
 use Rattle.replay.specs.Replay.{Replay, replay, good, done, afterJudging, commanded, commandedAt, replayedFrom, replayed}
 
 -- ---- one command
+
+-- whether a command is one on the model's machine, or the end, as the code tests it
+module _ (kind : ℕ) (ended : Bool) where
+  pub on-model : leb 6 kind && leb kind 8 && not ended ≡ true → (ended ≡ false) × (6 ≤ kind) × (kind ≤ 8)
+  on-model = go (leb 6 kind) (leb kind 8) ended refl refl
+    where
+      go : (t u v : Bool) → leb 6 kind ≡ t → leb kind 8 ≡ u → t && u && not v ≡ true → (v ≡ false) × (6 ≤ kind) × (kind ≤ 8)
+      go true true false f g e = (refl, leb-true 6 kind f, leb-true kind 8 g)
+      go true true true f g e = absurd (false≢true e)
+      go true false v f g e = absurd (false≢true e)
+      go false u v f g e = absurd (false≢true e)
+
+  pub not-on-model : leb 6 kind && leb kind 8 && not ended ≡ false → ended ≡ false → 6 ≤ kind → kind ≤ 8 → ⊥
+  not-on-model e on low high = true≢false (sym (rw (le-leb 6 kind low, le-leb kind 8 high, on)) ∙ e)
 
 pub last-kind : (kind : ℕ) → (kind ≡ 6 → ⊥) → (kind ≡ 7 → ⊥) → 6 ≤ kind → kind ≤ 8 → kind ≡ 8
 last-kind kind six seven low high = omega arith
@@ -55,18 +69,22 @@ module _ (x : Expected) (m : Machine) (c : Counts) (t : Tallies) (kind a b : ℕ
     unfolding commanded good done afterJudging
     command-patch y d fits k0 k6 k7 k8 f g h = simp (on, ne-eqb kind 0 k0, ne-eqb kind 6 k6, ne-eqb kind 7 k7, ne-eqb kind 8 k8, g, h, f)
 
-    -- a command on the expected machine, by whether a case begins
-    module _ (y : Expected) (d : Counts) (outside : 6 ≤ kind → kind ≤ 8 → ⊥)
-        (f : y ≡ cond (eqb kind 0) (clear x) (patched x kind a b))
-        (g : d ≡ cond (eqb kind 0) (caseBegun c) (judged false (patchFits x kind a) c)) where
-      by-kind : (begins : Bool) → eqb kind 0 ≡ begins → replay y m d t ≡ commanded (replay x m c t) kind a b
-      by-kind true h = command-clear y d (eqb-true kind 0 h) (f ∙ rw h) (g ∙ rw h)
-      by-kind false h =
-          command-patch y d (patchFits x kind a) (eqb-false kind 0 h) (λ e. outside (omega arith) (omega arith))
-          (λ e. outside (omega arith) (omega arith)) (λ e. outside (omega arith) (omega arith)) refl (f ∙ rw h) (g ∙ rw h)
+  -- a command after the end, or on the expected machine
+  module _ (y : Expected) (d : Counts) (outside : c .ended ≡ false → 6 ≤ kind → kind ≤ 8 → ⊥)
+      (f : y ≡ cond (c .ended) x (cond (eqb kind 0) (clear x) (patched x kind a b)))
+      (g : d ≡ cond (c .ended) (judged (eqb kind 7) false c) (cond (eqb kind 0) (caseBegun c) (judged false (patchFits x kind a) c))) where
+    by-kind : c .ended ≡ false → (begins : Bool) → eqb kind 0 ≡ begins → replay y m d t ≡ commanded (replay x m c t) kind a b
+    by-kind on true h = command-clear on y d (eqb-true kind 0 h) (f ∙ rw (on, h)) (g ∙ rw (on, h))
+    by-kind on false h =
+        command-patch on y d (patchFits x kind a) (eqb-false kind 0 h) (λ e. outside on (omega arith) (omega arith))
+        (λ e. outside on (omega arith) (omega arith)) (λ e. outside on (omega arith) (omega arith)) refl (f ∙ rw (on, h)) (g ∙ rw (on, h))
 
-      pub command-expect : replay y m d t ≡ commanded (replay x m c t) kind a b
-      command-expect = by-kind (eqb kind 0) refl
+    by-end : (ended : Bool) → c .ended ≡ ended → replay y m d t ≡ commanded (replay x m c t) kind a b
+    by-end true h = ap (λ (z : Expected). replay z m d t) (f ∙ rw h) ∙ after-end d h (g ∙ rw h)
+    by-end false h = by-kind h (eqb kind 0) refl
+
+    pub command-expect : replay y m d t ≡ commanded (replay x m c t) kind a b
+    command-expect = by-end (c .ended) refl
 
 -- ---- the commands of a part
 

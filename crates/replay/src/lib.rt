@@ -9,7 +9,7 @@ ghost use Rattle.state.specs.Machine.{machine};
 ghost use Rattle.tally.specs.Tally.{caseBegun, judged};
 ghost use Rattle.expected.specs.Expected.{expected, clear, patchFits, patched};
 ghost use Rattle.replaystep.specs.Tallies.{tallies};
-ghost use Rattle.replay.specs.Replay.{clearKind, startKind, endKind, replay, commanded, replayed, finished};
+ghost use Rattle.replay.specs.Replay.{clearKind, startKind, stepKind, endKind, replay, commanded, replayed, finished};
 
 const CLEAR: u32 = 0;
 
@@ -25,7 +25,7 @@ pub struct Progress {
     pub counts: Counts,
 }
 
-// A command on the expected machine: a case begins, or a patch.
+// A command after the end, or one on the expected machine: a case begins, or a patch.
 fn expect(
     counts: Counts,
     xrecord: &mut [u8],
@@ -36,9 +36,12 @@ fn expect(
     a: u32,
     b: u32,
 ) -> Counts
-    ensures state { λ r. ⌜ expected (now (xrecord .exit)) (now (xram .exit)) (now (xrom .exit)) (now (xbelt .exit)) ≡ cond (eqb kind clearKind) (clear (expected (now (xrecord .entry)) (now (xram .entry)) (now (xrom .entry)) (now (xbelt .entry)))) (patched (expected (now (xrecord .entry)) (now (xram .entry)) (now (xrom .entry)) (now (xbelt .entry))) kind a b) ⌝ }
-    ensures counts { λ r. ⌜ r ≡ cond (eqb kind clearKind) (caseBegun counts) (judged false (patchFits (expected (now (xrecord .entry)) (now (xram .entry)) (now (xrom .entry)) (now (xbelt .entry))) kind a) counts) ⌝ }
+    ensures state { λ r. ⌜ expected (now (xrecord .exit)) (now (xram .exit)) (now (xrom .exit)) (now (xbelt .exit)) ≡ cond (counts .ended) (expected (now (xrecord .entry)) (now (xram .entry)) (now (xrom .entry)) (now (xbelt .entry))) (cond (eqb kind clearKind) (clear (expected (now (xrecord .entry)) (now (xram .entry)) (now (xrom .entry)) (now (xbelt .entry)))) (patched (expected (now (xrecord .entry)) (now (xram .entry)) (now (xrom .entry)) (now (xbelt .entry))) kind a b)) ⌝ }
+    ensures counts { λ r. ⌜ r ≡ cond (counts .ended) (judged (eqb kind stepKind) false counts) (cond (eqb kind clearKind) (caseBegun counts) (judged false (patchFits (expected (now (xrecord .entry)) (now (xram .entry)) (now (xrom .entry)) (now (xbelt .entry))) kind a) counts)) ⌝ }
 {
+    if counts.ended {
+        return counts.judge(kind == STEP, false);
+    }
     if kind == CLEAR {
         expected::clear(xrecord, xram, xrom, xbelt);
         return counts.begin_case();
@@ -104,59 +107,10 @@ fn act(
     }
 }
 
-// A command: its kind and its two numbers.
-fn command(
-    p: Processor,
-    counts: Counts,
-    xrecord: &mut [u8],
-    xram: &mut [u8],
-    xrom: &mut [u8],
-    xbelt: &mut [u8],
-    ram: &mut [u8],
-    rom: &mut [u8],
-    belt: &mut [u8],
-    opcodes: &mut [u32],
-    exceptions: &mut [u32],
-    kind: u32,
-    a: u32,
-    b: u32,
-) -> Progress
-    ensures { λ r. ⌜ replay (expected (now (xrecord .exit)) (now (xram .exit)) (now (xrom .exit)) (now (xbelt .exit))) (machine (r .processor) (now (ram .exit)) (now (rom .exit)) (now (belt .exit))) (r .counts) (tallies (now (opcodes .exit)) (now (exceptions .exit))) ≡ commanded (replay (expected (now (xrecord .entry)) (now (xram .entry)) (now (xrom .entry)) (now (xbelt .entry))) (machine p (now (ram .entry)) (now (rom .entry)) (now (belt .entry))) counts (tallies (now (opcodes .entry)) (now (exceptions .entry)))) kind a b ⌝ }
-{
-    if counts.ended {
-        return Progress {
-            processor: p,
-            counts: counts.judge(kind == STEP, false),
-        };
-    }
-    match kind {
-        START..=END => act(
-            p,
-            counts,
-            &xrecord[..],
-            &xram[..],
-            &xrom[..],
-            &xbelt[..],
-            ram,
-            rom,
-            belt,
-            opcodes,
-            exceptions,
-            kind,
-            a,
-            b,
-        ),
-        _ => Progress {
-            processor: p,
-            counts: expect(counts, xrecord, xram, xrom, xbelt, kind, a, b),
-        },
-    }
-}
-
 // The commands of a part of the file.
 pub fn part(
-    p: Processor,
-    counts: Counts,
+    mut p: Processor,
+    mut counts: Counts,
     xrecord: &mut [u8],
     xram: &mut [u8],
     xrom: &mut [u8],
@@ -170,35 +124,39 @@ pub fn part(
 ) -> Progress
     ensures { λ r. ⌜ replay (expected (now (xrecord .exit)) (now (xram .exit)) (now (xrom .exit)) (now (xbelt .exit))) (machine (r .processor) (now (ram .exit)) (now (rom .exit)) (now (belt .exit))) (r .counts) (tallies (now (opcodes .exit)) (now (exceptions .exit))) ≡ replayed (now (s .entry)) (replay (expected (now (xrecord .entry)) (now (xram .entry)) (now (xrom .entry)) (now (xbelt .entry))) (machine p (now (ram .entry)) (now (rom .entry)) (now (belt .entry))) counts (tallies (now (opcodes .entry)) (now (exceptions .entry)))) ⌝ }
 {
-    let mut state = p;
-    let mut tally = counts;
     let mut i = 0;
     while i < s.len() / 8 {
-        let word = endian::read_word(s, i * 8);
-        let number = endian::read_word(s, i * 8 + 4);
-        let progress = command(
-            state,
-            tally,
-            xrecord,
-            xram,
-            xrom,
-            xbelt,
-            ram,
-            rom,
-            belt,
-            opcodes,
-            exceptions,
-            word / 0x100_0000,
-            word % 0x100_0000,
-            number,
-        );
-        state = progress.processor;
-        tally = progress.counts;
+        let word = endianword::read_word(s, i * 8);
+        let b = endianword::read_word(s, i * 8 + 4);
+        let kind = word / 0x100_0000;
+        let a = word % 0x100_0000;
         i += 1;
+        if (kind >= START) & (kind <= END) & !counts.ended {
+            let progress = act(
+                p,
+                counts,
+                &xrecord[..],
+                &xram[..],
+                &xrom[..],
+                &xbelt[..],
+                ram,
+                rom,
+                belt,
+                opcodes,
+                exceptions,
+                kind,
+                a,
+                b,
+            );
+            p = progress.processor;
+            counts = progress.counts;
+        } else {
+            counts = expect(counts, xrecord, xram, xrom, xbelt, kind, a, b);
+        }
     }
     Progress {
-        processor: state,
-        counts: tally.judge(false, s.len() % 8 == 0),
+        processor: p,
+        counts: counts.judge(false, s.len() % 8 == 0),
     }
 }
 

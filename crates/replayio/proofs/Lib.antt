@@ -1,2 +1,3 @@
 -- The laws of `replayio`.
 pub mod Ended
+pub mod Rows

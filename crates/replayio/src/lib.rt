@@ -13,12 +13,6 @@ const PART: usize = 65536;
 
 const MOST_PARTS: u32 = 1024;
 
-struct Part {
-    processor: Processor,
-    counts: Counts,
-    left: u32,
-}
-
 // How many parts may follow one of n bytes: none where it did not fill its buffer.
 fn parts_left(n: usize, left: u32) -> u32
     ensures { λ r. ⌜ r ≤ left - 1 ⌝ }
@@ -32,98 +26,10 @@ fn parts_left(n: usize, left: u32) -> u32
     left - 1
 }
 
-// Reads and replays a part.
-fn replay_part(
-    fd: i32,
-    left: u32,
-    p: Processor,
-    counts: Counts,
-    xrecord: &mut [u8],
-    xram: &mut [u8],
-    xrom: &mut [u8],
-    xbelt: &mut [u8],
-    ram: &mut [u8],
-    rom: &mut [u8],
-    belt: &mut [u8],
-    opcodes: &mut [u32],
-    exceptions: &mut [u32],
-) -> Part
-    ensures { λ r. ⌜ r .left ≤ left - 1 ⌝ }
-{
-    let mut buffer = io::large_buffer();
-    let n = io::read_full(fd, &mut buffer);
-    let progress = replay::part(
-        p,
-        counts,
-        xrecord,
-        xram,
-        xrom,
-        xbelt,
-        ram,
-        rom,
-        belt,
-        opcodes,
-        exceptions,
-        &buffer[..n],
-    );
-    let next = progress.processor;
-    let after = progress.counts;
-    Part {
-        processor: next,
-        counts: after,
-        left: parts_left(n, left),
-    }
-}
-
-fn replay_file(
-    fd: i32,
-    xrecord: &mut [u8],
-    xram: &mut [u8],
-    xrom: &mut [u8],
-    xbelt: &mut [u8],
-    ram: &mut [u8],
-    rom: &mut [u8],
-    belt: &mut [u8],
-    opcodes: &mut [u32],
-    exceptions: &mut [u32],
-) -> Counts
-    ensures { λ r. ⌜ (r .mismatches ≡ 0 → r .ended ≡ true) ⌝ }
-{
-    let mut state = Processor::reset();
-    let mut counts = Counts::zero();
-    let mut left = MOST_PARTS;
-    while left > 0 {
-        let part = replay_part(
-            fd,
-            left,
-            state,
-            counts,
-            xrecord,
-            xram,
-            xrom,
-            xbelt,
-            ram,
-            rom,
-            belt,
-            opcodes,
-            exceptions,
-        );
-        state = part.processor;
-        counts = part.counts;
-        left = part.left;
-    }
-    replay::finish(counts)
-}
-
 // RAM of 8,192 bytes, ROM of 4,096 and a belt of 1,024. What is counted is printed and answered.
-pub fn run(path: &[u8]) -> Counts
+fn replay_file(fd: i32) -> Counts
     ensures { λ r. ⌜ (r .mismatches ≡ 0 → r .ended ≡ true) ⌝ }
 {
-    let fd = os::open_read(path);
-    if fd < 0 {
-        io::write_all(STDOUT_FILENO, b"the file cannot be opened\n");
-        return replay::finish(Counts::zero());
-    }
     let mut xrecord = [0u8; 414];
     let mut xram = [0u8; 8192];
     let mut xrom = [0u8; 4096];
@@ -133,19 +39,45 @@ pub fn run(path: &[u8]) -> Counts
     let mut belt = [0u8; 1024];
     let mut opcodes = [0u32; 64];
     let mut exceptions = [0u32; 32];
-    let counts = replay_file(
-        fd,
-        &mut xrecord,
-        &mut xram,
-        &mut xrom,
-        &mut xbelt,
-        &mut ram,
-        &mut rom,
-        &mut belt,
-        &mut opcodes,
-        &mut exceptions,
-    );
+    let mut state = Processor::reset();
+    let mut counts = Counts::zero();
+    let mut left = MOST_PARTS;
+    while left > 0 {
+        let mut buffer = io::large_buffer();
+        let n = io::read_full(fd, &mut buffer);
+        let progress = replay::part(
+            state,
+            counts,
+            &mut xrecord,
+            &mut xram,
+            &mut xrom,
+            &mut xbelt,
+            &mut ram,
+            &mut rom,
+            &mut belt,
+            &mut opcodes,
+            &mut exceptions,
+            &buffer[..n],
+        );
+        state = progress.processor;
+        counts = progress.counts;
+        left = parts_left(n, left);
+    }
+    let total = replay::finish(counts);
+    report::print(total, &opcodes, &exceptions);
+    total
+}
+
+// A file that cannot be opened is one without an end.
+pub fn run(path: &[u8]) -> Counts
+    ensures { λ r. ⌜ (r .mismatches ≡ 0 → r .ended ≡ true) ⌝ }
+{
+    let fd = os::open_read(path);
+    if fd < 0 {
+        io::write_all(STDOUT_FILENO, b"the file cannot be opened\n");
+        return replay::finish(Counts::zero());
+    }
+    let counts = replay_file(fd);
     libc::close(fd);
-    report::print(counts, &opcodes, &exceptions);
     counts
 }

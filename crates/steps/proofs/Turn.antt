@@ -91,10 +91,10 @@ pub record Going (kind : Bool) (wanted lines : ℕ) (began m : Machine) (rs hs l
 
 module _ {kind : Bool} {wanted lines : ℕ} {began : Machine} {p : Processor} {memory : Memory} {rs hs ls : List ℕ} {last : Found} {steps eid : ℕ}
     (g : Going kind wanted lines began (record { processor = p; memory = memory }) rs hs ls last steps eid) (more : steps < wanted)
-    {a : Action} (e : a ≡ lookFrom (surroundings (p .psw) hs ls memory) rs (p .pc) lines)
+    {a b : Action} (e : b ≡ lookFrom (surroundings (p .psw) hs ls memory) rs (p .pc) lines) (told : b ≡ a)
     {n : Machine} (after : n ≡ done (record { processor = p; memory = memory }) a) where
   looked : look (record { processor = p; memory = memory }) lines ≡ a
-  looked = sym (e ∙ same-look p memory lines (g .beside))
+  looked = sym (e ∙ same-look p memory lines (g .beside)) ∙ told
 
   -- the run goes on
   pub again : ends kind (eidOf a) ≡ false

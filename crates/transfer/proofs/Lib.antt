@@ -1,3 +1,3 @@
 -- The laws of `transfer`, in the order to read them.
 pub mod Arms
-pub mod Faults
+pub mod Loads

@@ -1,22 +1,15 @@
 -- Loads and stores (manual, 3.5), a clause for each instruction, and their opcodes 30 to 37.
-use mathlib.Core.Bool.{true}
 use mathlib.Core.List.{List, [], _∷_}
 use Prim.Native.Nat.{ℕ}
 use Rattle.words.specs.Numbers.{zeroExtend, signExtend}
 use Rattle.sums.specs.Sums.{sum}
-use Rattle.translation.specs.Translation.{translated, translationEid}
-use Rattle.translation.specs.declared.Translation.{Translation}
-use Rattle.translation.specs.declared.Translation.the-variants.{Physical, TlbMiss, TlbWrite, TlbInvalid, IllegalAddress, PrivilegedAddress}
-use Rattle.memory.specs.Map.{Memory}
-use Rattle.memory.specs.Access.{storeAnswer, storedEid}
-use Rattle.memory.specs.declared.Stored.{Stored}
-use Rattle.memory.specs.declared.Stored.the-variants as stored
-use Rattle.instructions.specs.Operands.{Surroundings, Operands, Meaning, immediateS, fieldY}
+use Rattle.instructions.specs.Operands.{Operands, Meaning, immediateS, fieldY}
 use Rattle.instructions.specs.declared.Action.{Action}
-use Rattle.instructions.specs.declared.Action.the-variants.{Write, Store, Exception}
+use Rattle.instructions.specs.declared.Action.the-variants.{Write, Exception}
 use Rattle.reads.specs.Reads.{readFrom}
 use Rattle.reads.specs.declared.Read.{Read}
 use Rattle.reads.specs.declared.Read.the-variants.{Value, Fault}
+use Rattle.writes.specs.Writes.{storeTo}
 
 -- ---- loading
 
@@ -52,24 +45,7 @@ LDB = load 1 (signExtend 8)
 abbrev pub LDBU : Meaning
 LDBU = load 1 (zeroExtend 8)
 
--- ---- storing: at a physical address, or the same faults
-
-abbrev pub settled : ℕ → ℕ → ℕ → ℕ → Stored → Action
-settled width physical value address stored.Done = Store width physical value
-settled width physical value address stored.Timeout = Exception (storedEid stored.Timeout) address 0
-
-abbrev pub storeThrough : ℕ → Memory → ℕ → ℕ → Translation → Action
-storeThrough width m value address (Physical physical) = settled width physical value address (storeAnswer width m physical)
-storeThrough width m value address TlbMiss = Exception (translationEid TlbMiss) address 0
-storeThrough width m value address TlbWrite = Exception (translationEid TlbWrite) address 0
-storeThrough width m value address TlbInvalid = Exception (translationEid TlbInvalid) address 0
-storeThrough width m value address IllegalAddress = Exception (translationEid IllegalAddress) address 0
-storeThrough width m value address PrivilegedAddress = Exception (translationEid PrivilegedAddress) address 0
-
--- a value to a virtual address
-unfoldable pub storeTo : ℕ → Surroundings → ℕ → ℕ → Action
-storeTo width s value address =
-    storeThrough width (s .memory) value address (translated (s .psw) (s .highs) (s .lows) width true address)
+-- ---- storing
 
 abbrev pub store : ℕ → Meaning
 store width s o = storeTo width s (o .y) (addressOf o)

@@ -1,10 +1,8 @@
 // Loads and stores (manual, 3.5).
 use instructions::Action;
-use memory::Place;
 use processor::Processor;
 use processor::Words;
 use reads::Read;
-use translation::Translation;
 use translation::Width;
 use words::extension;
 ghost use mathlib.Core.Path.{_≡_};
@@ -12,8 +10,7 @@ ghost use lib.ListN.{getD};
 ghost use Rattle.memory.specs.Map.{memory};
 ghost use Rattle.instructions.specs.Operands.{operands, surroundings, simple, illegal};
 ghost use Rattle.words.specs.Numbers.{zeroExtend};
-ghost use Rattle.translation.specs.Translation.{bytesOf};
-ghost use Rattle.transfer.specs.Transfer.{extensions, landed, storeTo, transfers};
+ghost use Rattle.transfer.specs.Transfer.{extensions, landed, transfers};
 
 // A loaded value extended, by the opcode counted from LDW: LDW, LDH, LDHU, LDB, LDBU.
 fn extend(kind: u32, v: u32) -> u32
@@ -35,43 +32,6 @@ fn land(kind: u32, read: Read, number: u32, address: u32, next: u32) -> Action
     match read {
         Read::Value(v) => Action::Write(number, extend(kind, v), next),
         Read::Fault(eid) => Action::Exception(eid, address, 0),
-    }
-}
-
-fn bytes_of(width: Width) -> u32
-    ensures { λ r. ⌜ r ≡ bytesOf width ⌝ }
-{
-    match width {
-        Width::Byte => 1,
-        Width::Half => 2,
-        Width::Word => 4,
-    }
-}
-
-fn store<'a>(
-    psw: u32,
-    highs: &'a Words,
-    lows: &'a Words,
-    ram: &[u8],
-    rom: &[u8],
-    belt: &[u8],
-    width: Width,
-    value: u32,
-    address: u32,
-) -> Action
-    ensures { λ r. ⌜ r ≡ storeTo (bytesOf width) (surroundings psw (now (highs .entry)) (now (lows .entry)) (memory (now (ram .entry)) (now (rom .entry)) (now (belt .entry)))) value address ⌝ }
-{
-    let bytes = bytes_of(width);
-    let place = translation::translate(psw, highs, lows, width, true, address);
-    let Translation::Physical(physical) = place else {
-        return Action::Exception(translation::eid_of(place), address, 0);
-    };
-    let answer = memory::place_of(bytes, ram.len(), rom.len(), belt.len(), physical);
-    match answer {
-        Place::Ram(_) => Action::Store(bytes, physical, value),
-        Place::Rom(_) => Action::Store(bytes, physical, value),
-        Place::Belt(_) => Action::Store(bytes, physical, value),
-        Place::Nothing => Action::Exception(Processor::BUS_TIMEOUT, address, 0),
     }
 }
 
@@ -129,9 +89,9 @@ pub fn transfer<'a>(
             address,
             next,
         ),
-        5 => store(psw, highs, lows, ram, rom, belt, Width::Word, y, address),
-        6 => store(psw, highs, lows, ram, rom, belt, Width::Half, y, address),
-        7 => store(psw, highs, lows, ram, rom, belt, Width::Byte, y, address),
+        5 => writes::store(psw, highs, lows, ram, rom, belt, Width::Word, y, address),
+        6 => writes::store(psw, highs, lows, ram, rom, belt, Width::Half, y, address),
+        7 => writes::store(psw, highs, lows, ram, rom, belt, Width::Byte, y, address),
         _ => Action::Exception(Processor::ILLEGAL_INSTRUCTION, 0, 0),
     }
 }

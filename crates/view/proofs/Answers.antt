@@ -13,7 +13,7 @@ use Rattle.processor.specs.State.{fit}
 use Rattle.processor.specs.declared.Processor.{Processor}
 use Rattle.translation.specs.declared.Translation.{Translation}
 use Rattle.translation.specs.declared.Translation.the-variants.{Physical, TlbMiss, TlbWrite, TlbInvalid, IllegalAddress, PrivilegedAddress}
-use Rattle.reads.proofs.Faults.{IsFault}
+use Rattle.faults.proofs.Faulty.{IsFault}
 use Rattle.refusal.specs.Refusal.{ramAccepted}
 use Rattle.view.specs.View.{lookedUp, inRam, hasFrame, viewRefusal, viewOffset, viewLength}
 

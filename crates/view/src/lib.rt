@@ -49,7 +49,7 @@ pub fn locate(ram: &[u8], p: Processor, page: u64) -> View
     let highs = p.tlbhigh;
     let lows = p.tlblow;
     let address = page as u32 * 0x1000;
-    let found = translation::translate(KERNEL_MODE, &highs, &lows, Width::Byte, false, address);
+    let found = translate::translate(KERNEL_MODE, &highs, &lows, Width::Byte, false, address);
     let Translation::Physical(physical) = found else {
         return refused(NO_FRAME);
     };

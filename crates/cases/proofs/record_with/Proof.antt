@@ -1,12 +1,9 @@
 -- `cases::record_with` is safe and ends.
-use native.Mathlib.Omega.{arith}
 use lib.ListN.{length-set, length-append}
+use native.Mathlib.Omega.{arith}
 use borrow.Author.Needs.{needs}
 use Rattle.cases.proofs.record_with.Statement.{statement}
 use Rattle.cases.proofs.record_with.Tie as tie
-
-sample-requires : tie.Need-sample-requires
-sample-requires c κs = search needs
 
 array-borrow-prefix-bytes : tie.Need-array-borrow-prefix-bytes
 array-borrow-prefix-bytes c = search needs
@@ -30,7 +27,6 @@ pub record-with-spec : {M : Type 1} → statement M
 record-with-spec =
     tie.close
     (tie.spec
-    sample-requires
     array-borrow-prefix-bytes
     slice-aggregate-write
     write-requires

@@ -4,7 +4,8 @@ use mathlib.Core.Path.{refl, ap, _∙_}
 use Prim.Native.Nat.{ℕ}
 use lib.ListN.{getD}
 use borrow.Author.Needs.{needs}
-use Rattle.control.specs.Control.{branch, jumpTo, controls}
+use Rattle.control.specs.Control.{controls}
+use Rattle.branches.specs.Branches.{branch, jumpTo}
 use Rattle.control.specs.Control.{controls}
 use Rattle.instructions.specs.Operands.{operands, illegal}
 use Rattle.instructions.specs.declared.Action.the-variants.{Write}

@@ -1,6 +1,6 @@
 -- `expected::record_agrees` meets its contract, by the laws of ExpectedLaws.
 use mathlib.Core.Path.{refl}
-use Rattle.expected.proofs.ExpectedLaws.{no-record, record-compared}
+use Rattle.expected.proofs.ExpectedLaws.{record-compared}
 use borrow.Author.Needs.{needs}
 use Rattle.expected.proofs.record_agrees.Statement.{statement}
 use Rattle.expected.proofs.record_agrees.Tie as tie
@@ -9,19 +9,16 @@ slice-aggregate-write : tie.Need-slice-aggregate-write
 slice-aggregate-write c = search needs
 
 write-requires : tie.Need-write-requires
-write-requires c κs = search needs
-
-returns : tie.Need-returns
-returns c = no-record _ _ _ _ (c .before .before .write .ensures .0) refl (c .if1 .taken)
+write-requires c κs = tt
 
 slice-aggregate-same-bytes : tie.Need-slice-aggregate-same-bytes
 slice-aggregate-same-bytes c = search needs
 
 same-bytes-requires : tie.Need-same-bytes-requires
-same-bytes-requires c κs = search needs
+same-bytes-requires c κs = tt
 
-returns-2 : tie.Need-returns-2
-returns-2 c = record-compared _ _ _ _ (c .before .before .before .before .write .ensures .0) _ _ (c .before .before .if1 .left) (c .before .before .before .before .write .ensures .1) (c .same-bytes .ensures)
+returns : tie.Need-returns
+returns c = record-compared _ _ _ _ (c .before .before .before .write .ensures .0) _ _ refl (c .before .before .before .write .ensures .1) (c .same-bytes .ensures)
 
 pub record-agrees-spec : {M : Type 1} → statement M
 record-agrees-spec =
@@ -29,7 +26,6 @@ record-agrees-spec =
     (tie.spec
     slice-aggregate-write
     write-requires
-    returns
     slice-aggregate-same-bytes
     same-bytes-requires
-    returns-2)
+    returns)

@@ -4,29 +4,27 @@ use Prim.Native.Nat.{_-_, _/_}
 use native.Mathlib.Omega.{arith}
 use lib.ListN.{length}
 use denote.Ref.{now}
-use borrow.Author.Needs.{needs}
 use Rattle.state.specs.Machine.{machine}
 use Rattle.expected.specs.Expected.{expected}
 use Rattle.replaystep.specs.Tallies.{tallies}
 use Rattle.replay.specs.Replay.{replay}
-use Rattle.replay.proofs.CommandLaws.{in-part, in-part-word, replay-end, replay-start, Going, again, part-judged}
+use Rattle.replay.proofs.CommandLaws.{on-model, not-on-model, command-expect, in-part, in-part-word, replay-end, replay-start, Going, again, part-judged}
 use Rattle.replay.proofs.part.Statement.{statement}
 use Rattle.replay.proofs.part.Tie as tie
 
 abbrev Inv-loop : tie.InvT-loop
-Inv-loop xrecord₀ xram₀ xrom₀ xbelt₀ ram₀ rom₀ belt₀ opcodes₀ exceptions₀ s state₀ tally₀ i₀ xrecord xram xrom xbelt ram rom belt opcodes exceptions state tally i =
-    Going s (replay (expected xrecord₀ xram₀ xrom₀ xbelt₀) (machine state₀ ram₀ rom₀ belt₀) tally₀ (tallies opcodes₀ exceptions₀))
-    (replay (expected xrecord xram xrom xbelt) (machine state ram rom belt) tally (tallies opcodes exceptions)) i
+Inv-loop p₀ counts₀ xrecord₀ xram₀ xrom₀ xbelt₀ ram₀ rom₀ belt₀ opcodes₀ exceptions₀ s i₀ p counts xrecord xram xrom xbelt ram rom belt opcodes exceptions i =
+    Going s (replay (expected xrecord₀ xram₀ xrom₀ xbelt₀) (machine p₀ ram₀ rom₀ belt₀) counts₀ (tallies opcodes₀ exceptions₀))
+    (replay (expected xrecord xram xrom xbelt) (machine p ram rom belt) counts (tallies opcodes exceptions)) i
 
 abbrev μ-loop : tie.MeasureT-loop
-μ-loop xrecord₀ xram₀ xrom₀ xbelt₀ ram₀ rom₀ belt₀ opcodes₀ exceptions₀ s state₀ tally₀ i₀ xrecord xram xrom xbelt ram rom belt opcodes exceptions state tally i = length s / 8 - i
+μ-loop p₀ counts₀ xrecord₀ xram₀ xrom₀ xbelt₀ ram₀ rom₀ belt₀ opcodes₀ exceptions₀ s i₀ p counts xrecord xram xrom xbelt ram rom belt opcodes exceptions i = length s / 8 - i
 
 loop-holds : tie.Need-loop-holds Inv-loop μ-loop
-loop-holds c =
-    record {
-      lengths = record { bytes = refl; xram = refl; xrom = refl; xbelt = refl; ram = refl; rom = refl; belt = refl; opcodes = refl; exceptions = refl };
-      rest = replay-start _ _ _;
-    }
+loop-holds c = record {
+  lengths = record { bytes = refl; xram = refl; xrom = refl; xbelt = refl; ram = refl; rom = refl; belt = refl; opcodes = refl; exceptions = refl };
+  rest = replay-start _ _ _;
+}
 
 mul-read-word : tie.Need-mul-read-word Inv-loop μ-loop
 mul-read-word c = let g = c .before .before .before .before .before .before .before .before .before .before .before .before .good .1 .1 .1 .1 .1 .1 .1 .1 .1 .1 .1 .0 in let inside = in-part (now (c .before .before .before .before .before .before .before .before .before .before .before .before .args .s)) (c .before .loop .i) (c .loop-test .taken) in omega arith
@@ -43,28 +41,24 @@ add-read-word c = let g = c .before .before .before .before .before .before .bef
 read-word-requires-2 : tie.Need-read-word-requires-2 Inv-loop μ-loop
 read-word-requires-2 c κs = in-part (now (c .before .before .before .before .before .before .before .before .before .before .before .before .before .args .s)) (c .before .before .loop .i) (c .before .loop-test .taken)
 
-command-requires : tie.Need-command-requires Inv-loop μ-loop
-command-requires c κs = search needs
-
 add-i : tie.Need-add-i Inv-loop μ-loop
-add-i c = let g = c .before .before .before .before .before .before .before .before .before .before .before .before .before .before .before .before .before .before .before .before .before .before .before .before .before .before .before .before .before .before .before .before .before .before .before .before .before .before .before .before .before .before .before .before .good .1 .1 .1 .1 .1 .1 .1 .1 .1 .1 .1 .0 in let inside = in-part (now (c .before .before .before .before .before .before .before .before .before .before .before .before .before .before .before .before .before .before .before .before .before .before .before .before .before .before .before .before .before .before .before .before .before .before .before .before .before .before .before .before .before .before .before .before .args .s)) (c .before .before .before .before .before .before .before .before .before .before .before .before .before .before .before .before .before .before .before .before .before .before .before .before .before .before .before .before .before .before .before .before .before .loop .i) (c .before .before .before .before .before .before .before .before .before .before .before .before .before .before .before .before .before .before .before .before .before .before .before .before .before .before .before .before .before .before .before .before .loop-test .taken) in omega arith
+add-i c = let g = c .before .before .before .before .before .before .before .before .before .before .before .before .before .before .good .1 .1 .1 .1 .1 .1 .1 .1 .1 .1 .1 .0 in let inside = in-part (now (c .before .before .before .before .before .before .before .before .before .before .before .before .before .before .args .s)) (c .before .before .before .loop .i) (c .before .before .loop-test .taken) in omega arith
+
+act-requires : tie.Need-act-requires Inv-loop μ-loop
+act-requires c κs = on-model _ _ (c .before .before .before .before .before .before .before .before .before .if1 .taken)
 
 loop-less : tie.Need-loop-less Inv-loop μ-loop
-loop-less c = let more = c .before .before .before .before .before .before .before .before .before .before .before .before .before .before .before .before .before .before .before .before .before .before .before .before .before .before .before .before .before .before .before .before .loop-test .taken in omega arith
+loop-less c = let more = c .before .before .before .before .before .before .before .before .before .before .before .before .before .before .before .before .before .before .before .before .before .before .before .before .before .before .loop-test .taken in omega arith
 
 loop-again : tie.Need-loop-again Inv-loop μ-loop
 loop-again c =
-    let command = c .before .before .before .before .before .before .before .before .before .before .before .before .before .before .before .before .before .before .before .before in
-    let kept = command .command .kept in
-    let second = command .before .before .before .before .before .before .before .before .before .before in
-    let first = second .before in
-    let test = first .before in
-    again (test .before .loop .inv) (test .loop-test .taken) (first .read-word .ensures) (second .read-word2 .ensures) (command .command .ensures)
+    let kept = c .before .before .before .before .before .before .before .before .before .before .before .before .act .kept in
+    again (c .before .before .before .before .before .before .before .before .before .before .before .before .before .before .before .before .before .before .before .before .before .before .before .before .before .before .before .loop .inv) (c .before .before .before .before .before .before .before .before .before .before .before .before .before .before .before .before .before .before .before .before .before .before .before .before .before .before .loop-test .taken) (c .before .before .before .before .before .before .before .before .before .before .before .before .before .before .before .before .before .before .before .before .before .before .before .before .before .read-word .ensures) (c .before .before .before .before .before .before .before .before .before .before .before .before .before .before .before .before .before .before .before .before .before .before .before .before .read-word2 .ensures) (c .before .before .before .before .before .before .before .before .before .before .before .before .act .ensures)
     record {
-      bytes = kept .1 .1 .0;
-      xram = kept .1 .1 .1 .0;
-      xrom = kept .1 .1 .1 .1 .0;
-      xbelt = kept .1 .1 .1 .1 .1 .0;
+      bytes = refl;
+      xram = refl;
+      xrom = refl;
+      xbelt = refl;
       ram = kept .1 .1 .1 .1 .1 .1 .0;
       rom = kept .1 .1 .1 .1 .1 .1 .1 .0;
       belt = kept .1 .1 .1 .1 .1 .1 .1 .1 .0;
@@ -72,8 +66,31 @@ loop-again c =
       exceptions = kept .1 .1 .1 .1 .1 .1 .1 .1 .1 .1 .0;
     }
 
+expect-requires : tie.Need-expect-requires Inv-loop μ-loop
+expect-requires c κs = tt
+
+loop-less-2 : tie.Need-loop-less-2 Inv-loop μ-loop
+loop-less-2 c = let more = c .before .before .before .before .before .before .before .before .before .before .before .before .before .before .before .before .before .loop-test .taken in omega arith
+
+loop-again-2 : tie.Need-loop-again-2 Inv-loop μ-loop
+loop-again-2 c =
+    let kept = c .before .before .before .before .before .before .before .before .expect .kept in
+    again (c .before .before .before .before .before .before .before .before .before .before .before .before .before .before .before .before .before .before .loop .inv) (c .before .before .before .before .before .before .before .before .before .before .before .before .before .before .before .before .before .loop-test .taken) (c .before .before .before .before .before .before .before .before .before .before .before .before .before .before .before .before .read-word .ensures) (c .before .before .before .before .before .before .before .before .before .before .before .before .before .before .before .read-word2 .ensures)
+    (command-expect _ _ _ _ _ _ _ _ _ (not-on-model _ _ (c .before .before .before .before .before .before .before .before .before .before .before .before .before .if1 .left)) (c .before .before .before .before .before .before .before .before .expect .ensures .0) (c .before .before .before .before .before .before .before .before .expect .ensures .1))
+    record {
+      bytes = kept .1 .0;
+      xram = kept .1 .1 .0;
+      xrom = kept .1 .1 .1 .0;
+      xbelt = kept .1 .1 .1 .1 .0;
+      ram = refl;
+      rom = refl;
+      belt = refl;
+      opcodes = refl;
+      exceptions = refl;
+    }
+
 judge-requires : tie.Need-judge-requires Inv-loop μ-loop
-judge-requires c κs = search needs
+judge-requires c κs = tt
 
 same-length : tie.Need-same-length Inv-loop μ-loop
 same-length c = c .before .before .loop .inv .lengths .bytes
@@ -117,10 +134,13 @@ part-spec =
     mul-read-word-2
     add-read-word
     read-word-requires-2
-    command-requires
     add-i
+    act-requires
     loop-less
     loop-again
+    expect-requires
+    loop-less-2
+    loop-again-2
     judge-requires
     same-length
     same-length-2

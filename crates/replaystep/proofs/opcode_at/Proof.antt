@@ -8,7 +8,7 @@ use Rattle.replaystep.proofs.opcode_at.Statement.{statement}
 use Rattle.replaystep.proofs.opcode_at.Tie as tie
 
 read-word-requires : tie.Need-read-word-requires
-read-word-requires c κs = search needs
+read-word-requires c κs = tt
 
 enum-known-fetched : tie.Need-enum-known-fetched
 enum-known-fetched c = search needs

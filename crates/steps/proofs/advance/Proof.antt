@@ -49,7 +49,7 @@ loop-less c = one-less _ _ (c .before .before .before .before .before .before .b
 loop-again : tie.Need-loop-again Inv-loop μ-loop
 loop-again c =
     let turn = c .before .before .before .before .before .before .before .before .before .before .before .before .before .before .loop in
-    again (turn .inv) (c .before .before .before .before .before .before .before .before .before .before .before .before .before .loop-test .taken) (sym (c .before .before .before .action .given .1) ∙ c .before .before .before .before .before .look-at .ensures)
+    again (turn .inv) (c .before .before .before .before .before .before .before .before .before .before .before .before .before .loop-test .taken) (c .before .before .before .before .before .look-at .ensures) (c .before .before .before .action .given .1)
     (joined (c .jump .ensures ∙ zero-written _ _ _ _ (c .before .if1 .taken)) refl)
     (none-goes-on _) refl refl
     (jump-beside (turn .inv .beside) _ (c .jump .ensures))
@@ -70,7 +70,7 @@ loop-less-2 c = one-less _ _ (c .before .before .before .before .before .before 
 loop-again-2 : tie.Need-loop-again-2 Inv-loop μ-loop
 loop-again-2 c =
     let turn = c .before .before .before .before .before .before .before .before .before .before .before .before .before .before .loop in
-    again (turn .inv) (c .before .before .before .before .before .before .before .before .before .before .before .before .before .loop-test .taken) (sym (c .before .before .before .action .given .1) ∙ c .before .before .before .before .before .look-at .ensures)
+    again (turn .inv) (c .before .before .before .before .before .before .before .before .before .before .before .before .before .loop-test .taken) (c .before .before .before .before .before .look-at .ensures) (c .before .before .before .action .given .1)
     (joined (c .write .ensures) refl)
     (none-goes-on _) refl refl
     (write-beside (turn .inv .beside) _ _ _ (c .before .if1 .left) (c .write .ensures))
@@ -94,7 +94,7 @@ loop-less-3 c = one-less _ _ (c .before .before .before .before .before .before 
 loop-again-3 : tie.Need-loop-again-3 Inv-loop μ-loop
 loop-again-3 c =
     let turn = c .before .before .before .before .before .before .before .before .before .before .before .before .before .before .before .before .before .before .before .before .before .loop in
-    again (turn .inv) (c .before .before .before .before .before .before .before .before .before .before .before .before .before .before .before .before .before .before .before .before .loop-test .taken) (sym (c .before .before .before .before .before .before .before .before .before .before .action2 .given .1) ∙ c .before .before .before .before .before .before .before .before .before .before .before .before .look-at .ensures)
+    again (turn .inv) (c .before .before .before .before .before .before .before .before .before .before .before .before .before .before .before .before .before .before .before .before .loop-test .taken) (c .before .before .before .before .before .before .before .before .before .before .before .before .look-at .ensures) (c .before .before .before .before .before .before .before .before .before .before .action2 .given .1)
     (joined (c .jump2 .ensures ∙ ap (jumped (turn .state)) (c .before .add .ensures)) (c .before .before .before .before .before .before .store .ensures))
     (none-goes-on _) (c .before .before .before .before .before .before .store .kept .0) (c .before .before .before .before .before .before .store .kept .1 .1 .0)
     (jump-beside (turn .inv .beside) _ (c .jump2 .ensures))
@@ -114,7 +114,7 @@ loop-less-4 c = one-less _ _ (c .before .before .before .before .before .before 
 
 loop-again-4 : tie.Need-loop-again-4 Inv-loop μ-loop
 loop-again-4 c =
-    again (c .before .before .before .before .before .before .before .before .before .before .before .before .before .before .before .before .before .before .loop .inv) (c .before .before .before .before .before .before .before .before .before .before .before .before .before .before .before .before .before .loop-test .taken) (sym (c .before .before .before .before .before .before .before .action3 .given .1) ∙ c .before .before .before .before .before .before .before .before .before .look-at .ensures)
+    again (c .before .before .before .before .before .before .before .before .before .before .before .before .before .before .before .before .before .before .loop .inv) (c .before .before .before .before .before .before .before .before .before .before .before .before .before .before .before .before .before .loop-test .taken) (c .before .before .before .before .before .before .before .before .before .look-at .ensures) (c .before .before .before .before .before .before .before .action3 .given .1)
     (joined (c .before .before .before .before .before .system .ensures) refl)
     (none-goes-on _) refl refl
     (record { registers = refl; highs = refl; lows = refl })
@@ -132,7 +132,7 @@ loop-less-5 c = one-less _ _ (c .before .before .before .before .before .before 
 loop-again-5 : tie.Need-loop-again-5 Inv-loop μ-loop
 loop-again-5 c =
     let turn = c .before .before .before .before .before .before .before .before .before .before .before .before .before .before .before .loop in
-    again (turn .inv) (c .before .before .before .before .before .before .before .before .before .before .before .before .before .before .loop-test .taken) (sym (c .before .before .before .before .action4 .given .1) ∙ c .before .before .before .before .before .before .look-at .ensures)
+    again (turn .inv) (c .before .before .before .before .before .before .before .before .before .before .before .before .before .before .loop-test .taken) (c .before .before .before .before .before .before .look-at .ensures) (c .before .before .before .before .action4 .given .1)
     (joined (c .before .before .enter .ensures) refl)
     (plain-goes-on _ _ (c .if2 .left)) refl refl
     (enter-beside (turn .inv .beside) _ _ (c .before .before .enter .ensures))
@@ -155,7 +155,7 @@ same-length-4 c = c .before .before .before .before .before .before .before .bef
 
 returns-2 : tie.Need-returns-2 Inv-loop μ-loop
 returns-2 c =
-    stops (c .before .before .before .before .before .before .before .before .before .before .before .before .before .before .before .loop .inv) (c .before .before .before .before .before .before .before .before .before .before .before .before .before .before .loop-test .taken) (sym (c .before .before .before .before .action4 .given .1) ∙ c .before .before .before .before .before .before .look-at .ensures)
+    stops (c .before .before .before .before .before .before .before .before .before .before .before .before .before .before .before .loop .inv) (c .before .before .before .before .before .before .before .before .before .before .before .before .before .before .loop-test .taken) (c .before .before .before .before .before .before .look-at .ensures) (c .before .before .before .before .action4 .given .1)
     (joined (c .before .before .enter .ensures) refl)
     _ _ _ refl (c .if2 .taken)
 

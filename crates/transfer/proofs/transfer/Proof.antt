@@ -1,4 +1,4 @@
--- `transfer::transfer` meets its contract, by the laws of Arms and Faults.
+-- `transfer::transfer` meets its contract, by the laws of Arms and Loads.
 use mathlib.Core.Path.{ap, _∙_}
 use Prim.Native.Nat.{ℕ}
 use lib.ListN.{getD}
@@ -6,10 +6,10 @@ use denote.Ref.{now}
 use borrow.Author.Needs.{needs}
 use Rattle.instructions.specs.Operands.{operands, surroundings, simple, illegal}
 use Rattle.transfer.specs.Transfer.{load, extensions, transfers}
-use Rattle.transfer.specs.Transfer.{storeTo}
+use Rattle.writes.specs.Writes.{storeTo}
 use Rattle.instructions.proofs.Arms.{arm}
 use Rattle.transfer.proofs.Arms.{transfer-illegal}
-use Rattle.transfer.proofs.Faults.{lands}
+use Rattle.transfer.proofs.Loads.{lands}
 use Rattle.memory.specs.Map.{memory}
 use Rattle.sums.specs.Sums.{sum}
 use Rattle.transfer.proofs.transfer.Statement.{statement}

@@ -1,0 +1,2 @@
+-- The laws of `arithmetic`.
+pub mod Arms

@@ -1,0 +1,2 @@
+-- The laws of `beltline`.
+pub mod TextLaws

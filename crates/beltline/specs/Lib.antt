@@ -1,0 +1,2 @@
+-- The definitions of `beltline`.
+pub mod Text

@@ -1,0 +1,2 @@
+-- The laws of `branches`.
+pub mod Targets

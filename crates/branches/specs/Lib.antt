@@ -1,0 +1,2 @@
+-- The definitions of `branches`.
+pub mod Branches

@@ -1,0 +1,2 @@
+-- The law that several proofs of `cases` share.
+mod Filled

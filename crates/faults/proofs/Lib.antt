@@ -1,0 +1,2 @@
+-- The laws of `faults`.
+pub mod Faulty

@@ -1,0 +1,66 @@
+-- `halfaccess::load_half` meets its contract, by the laws of memory/proofs: Outcomes and Places.
+use mathlib.Core.Path.{sym, _∙_}
+use native.Mathlib.Omega.{arith}
+use borrow.Author.Needs.{needs}
+use Rattle.memory.specs.declared.Place.the-variants.{Ram, Rom}
+use Rattle.memory.proofs.Outcomes.{loads-ram, loads-rom, loads-nothing, loads-no-belt}
+use Rattle.memory.proofs.Places.{place-lies}
+use Rattle.halfaccess.proofs.load_half.Statement.{statement}
+use Rattle.halfaccess.proofs.load_half.Tie as tie
+
+place-of-requires : tie.Need-place-of-requires
+place-of-requires c κs = search needs
+
+enum-known-place : tie.Need-enum-known-place
+enum-known-place c = search needs
+
+cast-read-half : tie.Need-cast-read-half
+cast-read-half c = search needs
+
+read-half-requires : tie.Need-read-half-requires
+read-half-requires c κs = place-lies 2 _ _ _ _ (Ram _) (sym (c .before .before .before .place-of .ensures) ∙ c .before .place .given .1) .1
+
+enum-known-place-2 : tie.Need-enum-known-place-2
+enum-known-place-2 c = search needs
+
+cast-read-half-2 : tie.Need-cast-read-half-2
+cast-read-half-2 c = search needs
+
+read-half-requires-2 : tie.Need-read-half-requires-2
+read-half-requires-2 c κs = place-lies 2 _ _ _ _ (Rom _) (sym (c .before .before .before .place-of .ensures) ∙ c .before .place2 .given .1) .1
+
+enum-told : tie.Need-enum-told
+enum-told c = search needs
+
+enum-told-2 : tie.Need-enum-told-2
+enum-told-2 c = search needs
+
+returns : tie.Need-returns
+returns c = loads-ram 2 _ _ _ _ _ _ (sym (c .before .before .before .before .place-of .ensures) ∙ c .before .before .place .given .1) (c .read-half .ensures)
+
+returns-2 : tie.Need-returns-2
+returns-2 c = loads-rom 2 _ _ _ _ _ _ (sym (c .before .before .before .before .place-of .ensures) ∙ c .before .before .place2 .given .1) (c .read-half2 .ensures)
+
+returns-3 : tie.Need-returns-3
+returns-3 c = loads-no-belt 2 _ _ _ _ (λ e. omega arith) _ (sym (c .before .before .place-of .ensures) ∙ c .enum-told .given .1)
+
+returns-4 : tie.Need-returns-4
+returns-4 c = loads-nothing 2 _ _ _ _ (sym (c .before .before .place-of .ensures) ∙ c .enum-told2 .given .1)
+
+pub load-half-spec : {M : Type 1} → statement M
+load-half-spec =
+    tie.close
+    (tie.spec
+    place-of-requires
+    enum-known-place
+    cast-read-half
+    read-half-requires
+    enum-known-place-2
+    cast-read-half-2
+    read-half-requires-2
+    enum-told
+    enum-told-2
+    returns
+    returns-2
+    returns-3
+    returns-4)

@@ -1,0 +1,2 @@
+-- The laws of `signedquotients`.
+pub mod Division

@@ -1,0 +1,38 @@
+// The load and the store of a word at a physical address.
+use memory::Loaded;
+use memory::Place;
+use memory::Stored;
+ghost use mathlib.Core.Path.{_≡_};
+ghost use Rattle.memory.specs.Map.{memory};
+ghost use Rattle.memory.specs.Access.{loadOf, storeAnswer, memoryAfter};
+
+pub fn load_word(ram: &[u8], rom: &[u8], belt: &[u8], address: u32) -> Loaded
+    ensures { λ r. ⌜ r ≡ loadOf 4 (memory (now (ram .entry)) (now (rom .entry)) (now (belt .entry))) address ⌝ }
+{
+    let place = memory::place_of(4, ram.len(), rom.len(), belt.len(), address);
+    match place {
+        Place::Ram(at) => Loaded::Value(endianword::read_word(ram, at as usize)),
+        Place::Rom(at) => Loaded::Value(endianword::read_word_by_halves(rom, at as usize)),
+        Place::Belt(at) => Loaded::Value(endianword::read_word_by_halves(belt, at as usize)),
+        Place::Nothing => Loaded::Timeout,
+    }
+}
+
+pub fn store_word(ram: &mut [u8], rom: &[u8], belt: &mut [u8], address: u32, value: u32) -> Stored
+    ensures answer { λ r. ⌜ r ≡ storeAnswer 4 (memory (now (ram .entry)) (now (rom .entry)) (now (belt .entry))) address ⌝ }
+    ensures contents { λ r. ⌜ memory (now (ram .exit)) (now (rom .entry)) (now (belt .exit)) ≡ memoryAfter 4 (memory (now (ram .entry)) (now (rom .entry)) (now (belt .entry))) address value ⌝ }
+{
+    let place = memory::place_of(4, ram.len(), rom.len(), belt.len(), address);
+    match place {
+        Place::Ram(at) => {
+            endianwrite::write_word(ram, at as usize, value);
+            Stored::Done
+        }
+        Place::Rom(_) => Stored::Done,
+        Place::Belt(at) => {
+            endianwrite::write_word(belt, at as usize, value);
+            Stored::Done
+        }
+        Place::Nothing => Stored::Timeout,
+    }
+}

@@ -1,0 +1,39 @@
+-- A translation that is no physical address comes to its fault; and what each place of a store comes to.
+use mathlib.Core.Path.{_≡_, refl, ap, sym, _∙_}
+use Prim.Native.Nat.{ℕ}
+use Rattle.translation.specs.Translation.{translationEid}
+use Rattle.translation.specs.declared.Translation.{Translation}
+use Rattle.translation.specs.declared.Translation.the-variants.{Physical, TlbMiss, TlbWrite, TlbInvalid, IllegalAddress, PrivilegedAddress}
+use Rattle.memory.specs.Map.{Memory, placeIn}
+use Rattle.memory.specs.Access.{storeAnswer, completes}
+use Rattle.memory.specs.declared.Place.{Place}
+use Rattle.memory.specs.declared.Stored.the-variants as stored
+use Rattle.memory.proofs.Outcomes.{answer-at}
+use Rattle.faults.proofs.Faulty.{IsFault, not-physical}
+use Rattle.instructions.specs.declared.Action.the-variants.{Store, Exception}
+use Rattle.writes.specs.Writes.{settled, storeThrough}
+
+pub store-fault : (width : ℕ) (m : Memory) (value address : ℕ) (t : Translation) → IsFault t
+    → Exception (translationEid t) address 0 ≡ storeThrough width m value address t
+store-fault width m value address (Physical x) h = absurd (not-physical x h)
+store-fault width m value address TlbMiss h = refl
+store-fault width m value address TlbWrite h = refl
+store-fault width m value address TlbInvalid h = refl
+store-fault width m value address IllegalAddress h = refl
+store-fault width m value address PrivilegedAddress h = refl
+
+-- ---- a store that is granted, by the place of its physical address
+
+module _ (width : ℕ) (m : Memory) (value address physical : ℕ) (t : Translation) (p : Place) (bytes : ℕ) (same : bytes ≡ width)
+    (granted : t ≡ Physical physical) (place : placeIn bytes m physical ≡ p) where
+  answer-of : storeAnswer width m physical ≡ completes p
+  answer-of = ap (λ (n : ℕ). storeAnswer n m physical) (sym same) ∙ answer-at bytes m physical p place
+
+  pub store-done : completes p ≡ stored.Done → Store bytes physical value ≡ storeThrough width m value address t
+  store-done done =
+      ap (λ (n : ℕ). Store n physical value) same
+      ∙ sym (ap (storeThrough width m value address) granted ∙ ap (settled width physical value address) (answer-of ∙ done))
+
+  pub store-timeout : completes p ≡ stored.Timeout → Exception 16 address 0 ≡ storeThrough width m value address t
+  store-timeout out =
+      sym (ap (storeThrough width m value address) granted ∙ ap (settled width physical value address) (answer-of ∙ out))

@@ -1,0 +1,2 @@
+-- The laws of `writes`.
+pub mod Faults

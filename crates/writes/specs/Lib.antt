@@ -1,0 +1,2 @@
+-- The definitions of `writes`.
+pub mod Writes

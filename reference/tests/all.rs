@@ -1,0 +1,22 @@
+// The tests of the simulator as one program, which is linked once.
+mod common;
+
+mod belt;
+mod builder;
+mod cases;
+mod closed_points;
+mod compute;
+mod compute_bits;
+mod control;
+mod encoding;
+mod exceptions;
+mod host_calls;
+mod interrupts;
+mod load_store;
+mod page_view;
+mod physical;
+mod programs;
+mod record;
+mod runs;
+mod system;
+mod vectors;
