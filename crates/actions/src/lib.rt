@@ -1,9 +1,32 @@
-// Actions that are more than one method of the processor: a store, and the system instructions.
+// What the actions of a step do: a register write, a store, and the system instructions.
 use processor::Processor;
 ghost use mathlib.Core.Path.{_≡_};
+ghost use Prim.Native.Nat.{_%_};
+ghost use lib.ListN.{getD};
+ghost use Rattle.processor.specs.Register.{written};
 ghost use Rattle.memory.specs.Map.{memory};
 ghost use Rattle.memory.specs.Access.{memoryAfter};
 ghost use Rattle.actions.specs.Actions.{systemDone, storeWidth};
+
+// What a register write changes: its register, and the PC.
+pub struct Change {
+    pub value: u32,
+    pub pc: u32,
+}
+
+// Both as they are in the processor that `Processor::write` hands back.
+pub fn write(p: Processor, number: u32, value: u32, next: u32) -> Change
+    ensures value { λ r. ⌜ r .value ≡ getD (written p number value next .registers) (number % 32) 0 ⌝ }
+    ensures pc { λ r. ⌜ r .pc ≡ written p number value next .pc ⌝ }
+{
+    let after = p.write(number, value, next);
+    let registers = after.registers;
+    let i = (number % 32) as usize;
+    Change {
+        value: registers[i],
+        pc: after.pc,
+    }
+}
 
 // The look has found that something answers.
 pub fn store(ram: &mut [u8], rom: &[u8], belt: &mut [u8], width: u32, physical: u32, value: u32)

@@ -26,21 +26,17 @@ pub fn advance(
     ensures { λ r. ⌜ outcome (machine (r .processor) (now (ram .exit)) (now (rom .entry)) (now (belt .exit))) (r .refusal) (r .steps) (r .eid) ≡ runFrom kind wanted 0 (machine p (now (ram .entry)) (now (rom .entry)) (now (belt .entry))) lines ⌝ }
 {
     let mut state = p;
-    // Beside the state, and the same as in it: a read of the state itself would wait for the copy that each write makes.
-    let mut registers = p.registers;
-    let mut highs = p.tlbhigh;
-    let mut lows = p.tlblow;
-    let mut last = found::first(&highs);
+    let mut last = found::first(&state.tlbhigh);
     let mut steps = 0;
     let mut eid = Processor::NO_EXCEPTION;
     while steps < wanted {
-        last = found::follow(&highs, last, state.pc);
+        last = found::follow(&state.tlbhigh, last, state.pc);
         let action = look::look_at(
-            &registers,
+            &state.registers,
             state.pc,
             state.psw,
-            &highs,
-            &lows,
+            &state.tlbhigh,
+            &state.tlblow,
             last.index,
             &ram[..],
             rom,
@@ -54,8 +50,10 @@ pub fn advance(
                 if i == 0 {
                     state = state.jump(next);
                 } else {
-                    state = state.write(n, v, next);
-                    registers[i] = v;
+                    // All that a write changes: the rest of the state is not copied for it.
+                    let change = actions::write(state, n, v, next);
+                    state.registers[i] = change.value;
+                    state.pc = change.pc;
                 }
             }
             Action::Store(width, physical, v) => {
@@ -64,14 +62,10 @@ pub fn advance(
             }
             Action::System(opcode, z, v) => {
                 state = actions::system(state, opcode, z, v);
-                registers = state.registers;
-                highs = state.tlbhigh;
-                lows = state.tlblow;
-                last = found::first(&highs);
+                last = found::first(&state.tlbhigh);
             }
             Action::Exception(number, address, _) => {
                 state = state.enter(number, address);
-                registers = state.registers;
                 if kind {
                     eid = number;
                     break;
