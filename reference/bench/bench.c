@@ -100,7 +100,7 @@ static int same(const struct world *a, const struct world *b)
            memcmp(a->belt, b->belt, sizeof a->belt) == 0;
 }
 
-/* The programs meet no exception: one would have changed the PSW. */
+/* The programs of the two workloads meet no exception: one would have changed the PSW. */
 static void check(const struct world *start, const struct world worlds[SIDES])
 {
     struct plain_machine before;
@@ -117,37 +117,60 @@ static void check(const struct world *start, const struct world worlds[SIDES])
 }
 
 /* The least time of each side. */
-static void measure(const struct workload *workload, const struct options *options, double least[SIDES])
+static void measure(const struct world *start, uint64_t steps, uint64_t rounds, double least[SIDES])
 {
-    static struct world start;
     static struct world worlds[SIDES];
     uint64_t round;
     int n;
 
-    workload->image(&start);
-    for (round = 0; round < options->rounds; round++) {
+    for (round = 0; round < rounds; round++) {
         for (n = 0; n < SIDES; n++) {
             double time;
 
-            worlds[n] = start;
-            time = timed(&sides[n], &worlds[n], options->steps);
+            worlds[n] = *start;
+            time = timed(&sides[n], &worlds[n], steps);
             if (round == 0 || time < least[n])
                 least[n] = time;
         }
-        check(&start, worlds);
+        check(start, worlds);
     }
 }
 
-static void report(const struct workload *workload, const struct options *options, const double least[SIDES])
+static void report(const struct workload *workload, const struct options *options)
 {
+    static struct world start;
+    double least[SIDES];
     int n;
 
+    workload->image(&start);
+    measure(&start, options->steps, options->rounds, least);
     printf("%-26s", workload->name);
     for (n = 0; n < SIDES; n++)
         printf(" %8.1f", (double)options->steps / least[n] / 1e6);
     for (n = 1; n < SIDES; n++)
         printf(" %11.2f", least[n] / least[0]);
     printf("\n");
+}
+
+/* What a step costs by its instruction. */
+static void report_kinds(const struct options *options)
+{
+    static struct world start;
+    uint64_t steps = options->steps < 10 ? 1 : options->steps / 10;
+    size_t row;
+
+    printf("\n%-26s %8s %8s %8s\n", "Nanoseconds a step", sides[0].name, sides[1].name, sides[2].name);
+    for (row = 0; row < KINDS; row++) {
+        double least[SIDES];
+        int n;
+
+        image_kind(&start, &kinds[row]);
+        measure(&start, steps, options->rounds, least);
+        printf("%-26s", kinds[row].name);
+        for (n = 0; n < SIDES; n++)
+            printf(" %8.1f", least[n] / (double)steps * 1e9);
+        printf("\n");
+    }
 }
 
 /* What a call costs by its steps: with none it reads the record and writes it, and the model tests that it is fit. */
@@ -259,12 +282,9 @@ int main(int count, char **words)
            (unsigned long)options.steps);
     printf("Ratios are of speeds: above 1 the model is the faster.\n\n");
     printf("%-26s %8s %8s %8s %11s %11s\n", "", "model", "C", "Rust", "model/C", "model/Rust");
-    for (n = 0; n < sizeof workloads / sizeof workloads[0]; n++) {
-        double least[SIDES];
-
-        measure(&workloads[n], &options, least);
-        report(&workloads[n], &options, least);
-    }
+    for (n = 0; n < sizeof workloads / sizeof workloads[0]; n++)
+        report(&workloads[n], &options);
+    report_kinds(&options);
     report_calls(&options);
     report_stack();
     printf("\nAfter each run the three had the same machine and memory.\n");

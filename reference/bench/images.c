@@ -171,3 +171,27 @@ void image_user(struct world *world)
     map_pages(&m);
     plain_write(&m, world->record);
 }
+
+#define SYSTEM(opcode, register, number) ((uint32_t)(opcode) << 26 | (uint32_t)(register) << 16 | (number))
+
+const struct kind kinds[KINDS] = {
+    {"ADDI", SYSTEM(ADDI, A, 1)}, {"TRAP", SYSTEM(TRAP, 0, 0)},          {"RFX", SYSTEM(RFX, 0, 0)},
+    {"MVFS", SYSTEM(MVFS, A, PSW)}, {"MVTS", SYSTEM(MVTS, A, BAD_ADDRESS)}, {"TBS", SYSTEM(TBS, 0, 0)},
+    {"TBWR", SYSTEM(TBWR, 0, 0)}, {"TBRI", SYSTEM(TBRI, 0, 0)},          {"TBWI", SYSTEM(TBWI, 0, 0)},
+};
+
+void image_kind(struct world *world, const struct kind *kind)
+{
+    struct code code = {world->ram, 1};
+    struct plain_machine m;
+
+    memset(world, 0, sizeof *world);
+    while (code.at <= 100)
+        put(&code, kind->word);
+    jump(&code, J, 1 - (code.at + 1));
+
+    plain_reset(&m);
+    m.pc = m.r[30] = 0xC0000004;
+    m.special[PSW] = 0x08140000; /* V is 1; the EID is that of a trap */
+    plain_write(&m, world->record);
+}

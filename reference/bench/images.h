@@ -1,4 +1,4 @@
-/* The two workloads: RAM with a program in it, and the machine that begins it. */
+/* The workloads: RAM with a program in it, and the machine that begins it. */
 #ifndef BENCH_IMAGES_H
 #define BENCH_IMAGES_H
 
@@ -21,5 +21,18 @@ void image_kernel(struct world *world);
 /* User Mode on eight pages, in TLB entries 0 to 7: code on two of them, loads and stores on all, without end and
  * without exception. */
 void image_user(struct world *world);
+
+/* One instruction over and over. */
+struct kind {
+    const char *name;
+    uint32_t word;
+};
+
+#define KINDS 9
+extern const struct kind kinds[KINDS];
+
+/* Kernel Mode in direct-mapped RAM: the instruction a hundred times from C0000004 up, and a jump back. Its exception and
+ * its return, where it has one, lead to C0000004 too and leave the PSW as it is. */
+void image_kind(struct world *world, const struct kind *kind);
 
 #endif

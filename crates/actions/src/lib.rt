@@ -1,4 +1,4 @@
-// What the actions of a step do: a register write, a store, and the system instructions.
+// What the actions of a step come to: what a register write changes, a store, and the system instructions.
 use processor::Processor;
 ghost use mathlib.Core.Path.{_≡_};
 ghost use Prim.Native.Nat.{_%_};
@@ -20,6 +20,7 @@ pub fn write(p: Processor, number: u32, value: u32, next: u32) -> Change
     ensures pc { λ r. ⌜ r .pc ≡ written p number value next .pc ⌝ }
 {
     let after = p.write(number, value, next);
+    // Read from a copy of its own: this is what lets the compiler drop all copies (docs/SPEED.md).
     let registers = after.registers;
     let i = (number % 32) as usize;
     Change {

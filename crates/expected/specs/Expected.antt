@@ -1,4 +1,4 @@
--- The expected machine, and whether a step agrees with it.
+-- The expected machine, and whether a machine and an EID agree with it.
 use mathlib.Core.Bool.{Bool, false, cond}
 use mathlib.Core.List.{List}
 use Prim.Native.Nat.{ℕ}
@@ -9,7 +9,6 @@ use Rattle.memory.specs.Map.{Memory, memory}
 use Rattle.processor.specs.declared.Processor.{Processor}
 use Rattle.processor.specs.State.{atReset, fit}
 use Rattle.state.specs.Machine.{Machine, machine}
-use Rattle.machine.specs.Step.{stepOf, stepEid}
 use Rattle.recordlayout.specs.Record.{recordOf}
 use Rattle.record.specs.Calls.{processorRead, bufferAfter}
 use Rattle.slices.specs.Same.{same}
@@ -37,10 +36,6 @@ memoryAgrees x m =
 unfoldable pub agrees : Expected → ℕ → Machine → ℕ → Bool
 agrees x wanted m eid =
     both (eqb eid wanted) (both (recordAgrees (x .bytes) (m .processor)) (memoryAgrees (x .memory) (m .memory)))
-
--- against a step of a machine
-unfoldable pub stepAgrees : Expected → ℕ → Machine → ℕ → Bool
-stepAgrees x wanted m lines = agrees x wanted (stepOf m lines) (stepEid m lines)
 
 -- ---- commands
 

@@ -13,7 +13,8 @@ use Rattle.machine.specs.Step.{stepOf, stepEid}
 use Rattle.record.specs.Calls.{readRefusal}
 use Rattle.tally.specs.declared.Counts.{Counts}
 use Rattle.tally.specs.Tally.{caseBegun, stepMade, endRead, judged}
-use Rattle.expected.specs.Expected.{Expected, clear, patchFits, patched, startedIn, stepAgrees}
+use Rattle.expected.specs.Expected.{Expected, clear, patchFits, patched, startedIn}
+use Rattle.replaystep.specs.Agreement.{stepAgrees}
 use Rattle.replaystep.specs.Tallies.{Tallies, opcodeAt, tallied}
 use Rattle.replay.specs.Replay.{Replay, replay, good, done, afterJudging, commanded, commandedAt, replayedFrom, replayed}
 

@@ -15,7 +15,8 @@ use Rattle.recordlayout.specs.Record.{recordOf}
 use Rattle.tally.specs.declared.Counts.{Counts}
 use Rattle.slices.specs.Same.{same}
 use Rattle.tally.specs.Tally.{raised, caseBegun, stepMade, endRead, failed, judged}
-use Rattle.expected.specs.Expected.{Expected, recordAgrees, memoryAgrees, agrees, stepAgrees}
+use Rattle.expected.specs.Expected.{Expected, recordAgrees, memoryAgrees, agrees}
+use Rattle.replaystep.specs.Agreement.{stepAgrees}
 use Rattle.replay.specs.Replay.{Replay, good, done, afterJudging, commanded, goodAt, commandedAt, replayedFrom, allGoodFrom, replayed, finished}
 use Rattle.slices.proofs.SameLaws.{both-hold, same-equal, same-self}
 use Rattle.tally.proofs.TallyLaws.{raised-more, raised-most}

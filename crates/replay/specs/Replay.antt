@@ -10,7 +10,8 @@ use Rattle.state.specs.Machine.{Machine}
 use Rattle.machine.specs.Step.{stepOf, stepEid}
 use Rattle.record.specs.Calls.{readRefusal}
 use Rattle.tally.specs.Tally.{caseBegun, stepMade, endRead, judged}
-use Rattle.expected.specs.Expected.{Expected, expected, clear, patchFits, patched, startedIn, stepAgrees}
+use Rattle.expected.specs.Expected.{Expected, expected, clear, patchFits, patched, startedIn}
+use Rattle.replaystep.specs.Agreement.{stepAgrees}
 use Rattle.tally.specs.declared.Counts.{Counts}
 use Rattle.replaystep.specs.Tallies.{Tallies, opcodeAt, tallied}
 

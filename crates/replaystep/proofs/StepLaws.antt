@@ -9,8 +9,9 @@ use Rattle.reads.specs.declared.Read.the-variants.{Value, Fault}
 use Rattle.state.specs.Machine.{Machine}
 use Rattle.machine.specs.Step.{stepOf, stepEid, surroundingsOf}
 use Rattle.tally.specs.Tally.{raisedAt}
-use Rattle.expected.specs.Expected.{Expected, agrees, stepAgrees}
+use Rattle.expected.specs.Expected.{Expected, agrees}
 use Rattle.replaystep.specs.Tallies.{opcodeRead, opcodeAt, Tallies, tallies, tallied}
+use Rattle.replaystep.specs.Agreement.{stepAgrees}
 
 module _ (m : Machine) where
   pub opcode-fetched : (word : ℕ) → readFrom 4 (surroundingsOf m) (m .processor .pc) ≡ Value word → word / 67108864 ≡ opcodeAt m

@@ -1,2 +1,3 @@
 -- The definitions of `replaystep`.
 pub mod Tallies
+pub mod Agreement

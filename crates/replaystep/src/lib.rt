@@ -7,8 +7,9 @@ ghost use Rattle.memory.specs.Map.{memory};
 ghost use Rattle.state.specs.Machine.{machine};
 ghost use Rattle.machine.specs.Step.{stepOf, stepEid};
 ghost use Rattle.record.specs.Calls.{readRefusal};
-ghost use Rattle.expected.specs.Expected.{expected, startedIn, stepAgrees};
+ghost use Rattle.expected.specs.Expected.{expected, startedIn};
 ghost use Rattle.replaystep.specs.Tallies.{opcodeAt, tallies, tallied};
+ghost use Rattle.replaystep.specs.Agreement.{stepAgrees};
 
 // The processor after a step, and whether it agrees with the expected machine.
 pub struct Compared {

@@ -57,7 +57,7 @@ with-those p registers pc =
       replacement = p .replacement;
     }
 
--- the register and the PC that a write changes, taken over by the processor that was written
+-- a processor that takes over the register and the PC of a write to it is the one that the write hands back
 pub taken : (p : Processor) (n v next value pc : ℕ) → (n % 32 ≡ 0 → ⊥)
     → value ≡ getD (written p n v next .registers) (n % 32) 0 → pc ≡ written p n v next .pc
     → with-those p (set (p .registers) (n % 32) value) pc ≡ written p n v next

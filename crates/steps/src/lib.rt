@@ -48,9 +48,10 @@ pub fn advance(
             Action::Write(n, v, next) => {
                 let i = (n % 32) as usize;
                 if i == 0 {
+                    // As for every branch.
                     state = state.jump(next);
                 } else {
-                    // All that a write changes: the rest of the state is not copied for it.
+                    // The state takes over what the write changes, and nothing is copied.
                     let change = actions::write(state, n, v, next);
                     state.registers[i] = change.value;
                     state.pc = change.pc;
