@@ -100,7 +100,7 @@ static int same(const struct world *a, const struct world *b)
            memcmp(a->belt, b->belt, sizeof a->belt) == 0;
 }
 
-/* The programs of the two workloads meet no exception: one would have changed the PSW. */
+/* The programs meet no exception but the trap of a kind: another would have changed the PSW. */
 static void check(const struct world *start, const struct world worlds[SIDES])
 {
     struct plain_machine before;

@@ -172,12 +172,19 @@ void image_user(struct world *world)
     plain_write(&m, world->record);
 }
 
-#define SYSTEM(opcode, register, number) ((uint32_t)(opcode) << 26 | (uint32_t)(register) << 16 | (number))
+/* A word of one register and a 16-bit number. */
+#define WORD(opcode, r, z) ((uint32_t)(opcode) << 26 | (uint32_t)(r) << 16 | (z))
 
 const struct kind kinds[KINDS] = {
-    {"ADDI", SYSTEM(ADDI, A, 1)}, {"TRAP", SYSTEM(TRAP, 0, 0)},          {"RFX", SYSTEM(RFX, 0, 0)},
-    {"MVFS", SYSTEM(MVFS, A, PSW)}, {"MVTS", SYSTEM(MVTS, A, BAD_ADDRESS)}, {"TBS", SYSTEM(TBS, 0, 0)},
-    {"TBWR", SYSTEM(TBWR, 0, 0)}, {"TBRI", SYSTEM(TBRI, 0, 0)},          {"TBWI", SYSTEM(TBWI, 0, 0)},
+    {"ADDI", WORD(ADDI, A, 1)},
+    {"TRAP", WORD(TRAP, 0, 0)},
+    {"RFX", WORD(RFX, 0, 0)},
+    {"MVFS", WORD(MVFS, A, PSW)},
+    {"MVTS", WORD(MVTS, A, BAD_ADDRESS)},
+    {"TBS", WORD(TBS, 0, 0)},
+    {"TBWR", WORD(TBWR, 0, 0)},
+    {"TBRI", WORD(TBRI, 0, 0)},
+    {"TBWI", WORD(TBWI, 0, 0)},
 };
 
 void image_kind(struct world *world, const struct kind *kind)
