@@ -1,3 +1,2 @@
 -- The laws of `actions`.
 pub mod Widths
-pub mod Systems

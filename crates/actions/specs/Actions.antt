@@ -4,21 +4,31 @@ use Prim.Native.Nat.{ℕ}
 use lib.Dec.{eqb}
 use Rattle.sums.specs.Sums.{sum}
 use Rattle.processor.specs.declared.Processor.{Processor}
-use Rattle.processor.specs.Exception.{returned}
+use Rattle.instructions.specs.Action.{Action, Write, Store, System, Exception, SystemInstruction, Rfx, Mvfs, Mvts, Tbs, Tbwr, Tbri, Tbwi}
+use Rattle.processor.specs.Exception.{entered, returned}
 use Rattle.processor.specs.Register.{written, jumped, special, specialWritten}
 use Rattle.processor.specs.Tlb.{indexedWritten, randomWritten, entryRead, searched}
 
--- the system instructions, by opcode; the last is TBWI (3D). z is a special register's number, v the register's number for MVFS and the
--- value for MVTS
-unfoldable pub systemDone : ℕ → ℕ → ℕ → Processor → Processor
-systemDone opcode z v p =
-    cond (eqb opcode 0x2F) (returned p)
-    (cond (eqb opcode 0x38) (written p v (special p z) (sum (p .pc) 4))
-    (cond (eqb opcode 0x39) (specialWritten (jumped p (sum (p .pc) 4)) z v)
-    (cond (eqb opcode 0x3A) (searched (jumped p (sum (p .pc) 4)))
-    (cond (eqb opcode 0x3B) (randomWritten (jumped p (sum (p .pc) 4)))
-    (cond (eqb opcode 0x3C) (entryRead (jumped p (sum (p .pc) 4)))
-    (indexedWritten (jumped p (sum (p .pc) 4))))))))
+-- on to the next instruction
+abbrev pub onward : Processor → Processor
+onward p = jumped p (sum (p .pc) 4)
+
+-- RFX, MVFS, MVTS, TBS, TBWR, TBRI and TBWI (3.6.2 to 3.6.8)
+unfoldable pub systemDone : SystemInstruction → Processor → Processor
+systemDone Rfx p = returned p
+systemDone (Mvfs z n) p = written p n (special p z) (sum (p .pc) 4)
+systemDone (Mvts z v) p = specialWritten (onward p) z v
+systemDone Tbs p = searched (onward p)
+systemDone Tbwr p = randomWritten (onward p)
+systemDone Tbri p = entryRead (onward p)
+systemDone Tbwi p = indexedWritten (onward p)
+
+-- what an action makes of the processor
+abbrev pub processorAfter : Processor → Action → Processor
+processorAfter p (Write n v next) = written p n v next
+processorAfter p (Store width physical v) = onward p
+processorAfter p (System i) = systemDone i p
+processorAfter p (Exception eid address) = entered p eid address
 
 -- the width of a store: no action has another than 1, 2 and 4
 unfoldable pub storeWidth : ℕ → ℕ

@@ -1,12 +1,51 @@
-// What the actions of a step come to: what a register write changes, a store, and the system instructions.
+// What the actions of a step change: registers, memory, special registers and the TLB (manual, 3.5 and 3.6).
+use instructions::Coded;
 use processor::Processor;
 ghost use mathlib.Core.Path.{_≡_};
+ghost use Rattle.memory.specs.Lent.{lent, left};
+ghost use Rattle.processor.specs.Register.{special, written};
+ghost use Rattle.processor.specs.Tlb.{entryRead, searched};
 ghost use Prim.Native.Nat.{_%_};
 ghost use lib.ListN.{getD};
-ghost use Rattle.processor.specs.Register.{written};
-ghost use Rattle.memory.specs.Map.{memory};
 ghost use Rattle.memory.specs.Access.{memoryAfter};
-ghost use Rattle.actions.specs.Actions.{systemDone, storeWidth};
+ghost use Rattle.instructions.specs.Action.{actionOf};
+ghost use Rattle.actions.specs.Actions.{processorAfter, storeWidth};
+
+// A number above 4 reads 0.
+pub fn special(p: Processor, number: u32) -> u32
+    ensures { λ r. ⌜ r ≡ special p number ⌝ }
+{
+    match number {
+        0 => p.psw,
+        1 => p.index,
+        2 => p.entryhigh,
+        3 => p.entrylow,
+        4 => p.badaddress,
+        _ => 0,
+    }
+}
+
+// TBRI.
+pub fn read_indexed(mut p: Processor) -> Processor
+    ensures { λ r. ⌜ r ≡ entryRead p ⌝ }
+{
+    let i = p.index as usize % 32;
+    let tlbhigh = p.tlbhigh;
+    p.entryhigh = tlbhigh[i];
+    let tlblow = p.tlblow;
+    p.entrylow = tlblow[i];
+    p
+}
+
+// TBS.
+pub fn search(mut p: Processor) -> Processor
+    ensures { λ r. ⌜ r ≡ searched p ⌝ }
+{
+    let tlbhigh = p.tlbhigh;
+    let i = tlb::find(&tlbhigh, p.entryhigh / 0x1000);
+    p.index = tlb::found_index(i);
+    p
+}
 
 // What a register write changes: its register, and the PC.
 pub struct Change {
@@ -31,28 +70,32 @@ pub fn write(p: Processor, number: u32, value: u32, next: u32) -> Change
 
 // The look has found that something answers.
 pub fn store(ram: &mut [u8], rom: &[u8], belt: &mut [u8], width: u32, physical: u32, value: u32)
-    ensures { λ r. ⌜ memory (now (ram .exit)) (now (rom .entry)) (now (belt .exit)) ≡ memoryAfter (storeWidth width) (memory (now (ram .entry)) (now (rom .entry)) (now (belt .entry))) physical value ⌝ }
+    ensures { λ r. ⌜ left ram rom belt ≡ memoryAfter (storeWidth width) (lent ram rom belt) physical value ⌝ }
 {
     match width {
-        1 => byteaccess::store_byte(ram, rom, belt, physical, value),
-        2 => halfaccess::store_half(ram, rom, belt, physical, value),
-        _ => wordaccess::store_word(ram, rom, belt, physical, value),
+        1 => load_store::store_byte(ram, rom, belt, physical, value),
+        2 => load_store::store_half(ram, rom, belt, physical, value),
+        _ => load_store::store_word(ram, rom, belt, physical, value),
     }
     ;
 }
 
-pub fn system(p: Processor, opcode: u32, z: u32, v: u32) -> Processor
-    ensures { λ r. ⌜ r ≡ systemDone opcode z v p ⌝ }
+// What an action makes of the processor.
+pub fn done(p: Processor, action: Coded) -> Processor
+    ensures { λ r. ⌜ r ≡ processorAfter p (actionOf action) ⌝ }
 {
     let next = sums::add(p.pc, 4);
     let moved = p.jump(next);
-    match opcode {
-        0x2F => p.leave(),
-        0x38 => p.write(v, inspect::special(p, z), next),
-        0x39 => moved.write_special(z, v),
-        0x3A => inspect::search(moved),
-        0x3B => moved.write_random(),
-        0x3C => inspect::read_indexed(moved),
-        _ => moved.write_indexed(),
+    match action {
+        Coded::Write(n, v, after) => p.write(n, v, after),
+        Coded::Store(_, _, _) => moved,
+        Coded::Rfx(_, _, _) => p.leave(),
+        Coded::Mvfs(z, n, _) => p.write(n, special(p, z), next),
+        Coded::Mvts(z, v, _) => moved.write_special(z, v),
+        Coded::Tbs(_, _, _) => search(moved),
+        Coded::Tbwr(_, _, _) => moved.write_random(),
+        Coded::Tbri(_, _, _) => read_indexed(moved),
+        Coded::Tbwi(_, _, _) => moved.write_indexed(),
+        Coded::Exception(eid, address, _) => p.enter(eid, address),
     }
 }

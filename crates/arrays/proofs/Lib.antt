@@ -1,4 +1,4 @@
--- The laws of `arrays`, in the order to read them.
+-- The laws of `arrays`.
 pub mod Loops
 pub mod WriteLaws
 pub mod ReadLaws

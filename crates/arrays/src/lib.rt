@@ -11,7 +11,7 @@ pub fn get_words(s: &[u8], at: usize, stride: usize, words: &mut [u32])
 {
     let mut i = 0;
     while i < words.len() {
-        words[i] = endianword::read_word(s, at + i * stride);
+        words[i] = endian::read_word(s, at + i * stride);
         i += 1;
     }
 }
@@ -22,7 +22,7 @@ pub fn put_words(s: &mut [u8], at: usize, stride: usize, words: &[u32])
 {
     let mut i = 0;
     while i < words.len() {
-        endianwrite::write_word(s, at + i * stride, words[i]);
+        endian::write_word(s, at + i * stride, words[i]);
         i += 1;
     }
 }

@@ -1,3 +1,3 @@
--- The laws of `bitwise`, in the order to read them.
+-- The laws of `bitwise`.
 pub mod BitLaws
 pub mod Sizes

@@ -1,2 +1,3 @@
 -- The laws of `bytes`.
+pub mod SameLaws
 pub mod SliceLaws

@@ -1,2 +1,3 @@
--- The definitions of `bytes`.
+-- The definitions of `bytes`, in the order to read them.
+pub mod Same
 pub mod Bytes

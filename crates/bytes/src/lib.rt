@@ -1,7 +1,40 @@
-// Byte slices copied, cleared and patched.
+// Byte slices compared, copied, cleared and patched; slices of words compared.
 ghost use mathlib.Core.Path.{_≡_};
+ghost use Rattle.bytes.specs.Same.{same};
 ghost use lib.ListN.{length, replicate};
 ghost use Rattle.bytes.specs.Bytes.{copied, fits, patch};
+
+pub fn same_bytes(a: &[u8], b: &[u8]) -> bool
+    ensures { λ r. ⌜ r ≡ same (now (a .entry)) (now (b .entry)) ⌝ }
+{
+    if a.len() != b.len() {
+        return false;
+    }
+    let mut i = 0;
+    while i < a.len() {
+        if a[i] != b[i] {
+            return false;
+        }
+        i += 1;
+    }
+    true
+}
+
+pub fn same_words(v: &[u32], w: &[u32]) -> bool
+    ensures { λ r. ⌜ r ≡ same (now (v .entry)) (now (w .entry)) ⌝ }
+{
+    if v.len() != w.len() {
+        return false;
+    }
+    let mut i = 0;
+    while i < v.len() {
+        if v[i] != w[i] {
+            return false;
+        }
+        i += 1;
+    }
+    true
+}
 
 // A slice of another length is left as it is.
 pub fn copy(to: &mut [u8], from: &[u8])
@@ -36,7 +69,7 @@ pub fn patch_word(s: &mut [u8], at: u32, v: u32) -> bool
     if s.len() < start + 4 {
         return false;
     }
-    endianwrite::write_word(s, start, v);
+    endian::write_word(s, start, v);
     true
 }
 
@@ -48,6 +81,6 @@ pub fn patch_byte(s: &mut [u8], at: u32, v: u32) -> bool
     if s.len() < start + 1 {
         return false;
     }
-    endianwrite::write_byte(s, start, v);
+    endian::write_byte(s, start, v);
     true
 }

@@ -1,7 +1,7 @@
 // Document 01's cases that are run, a line for each: lengths, steps, records, page views, each refusal, and their order.
 use libc::STDOUT_FILENO;
-use outcomes::Handed;
-use outcomes::Outcome;
+use machines::Handed;
+use machines::Outcome;
 use processor::Processor;
 ghost use mathlib.Core.Path.{_≡_};
 ghost use Prim.Native.Nat.{_≤_, _<_};
@@ -71,9 +71,9 @@ fn print_run(
     let mut beltbytes = [FILL; 2048];
     let beltcopy = [FILL; 2048];
     let mut rombytes = [0u8; 8192];
-    endianwrite::write_word(&mut rombytes, 0, (program / 0x1_0000_0000) as u32);
-    endianwrite::write_word(&mut rombytes, 4, (program % 0x1_0000_0000) as u32);
-    let outcome = outcomes::run(
+    endian::write_word(&mut rombytes, 0, (program / 0x1_0000_0000) as u32);
+    endian::write_word(&mut rombytes, 4, (program % 0x1_0000_0000) as u32);
+    let outcome = machines::run(
         kind,
         p,
         &mut rambytes[..ram],
@@ -165,7 +165,7 @@ fn print_machine(name: &[u8], at: usize, value: u8)
     requires { ⌜ at < 416 ⌝ }
 {
     let bytes = record_with(Processor::reset(), at, value, NOWHERE, 0);
-    let p = recordlayout::get(&bytes[..414]);
+    let p = record_layout::get(&bytes[..414]);
     print_runs(name, p, COUNT, 4096, 4096, 1024, 1);
 }
 
@@ -246,7 +246,7 @@ fn print_read(n: usize, at: usize, value: u8, second: usize, other: u8)
     requires { ⌜ (n ≤ 416) × (at < 416) × (second < 416) ⌝ }
 {
     let bytes = record_with(sample(), at, value, second, other);
-    let handed = outcomes::read(&bytes[..n], sample());
+    let handed = machines::read(&bytes[..n], sample());
     print_filled(b"read of # bytes", [n as u64, 0, 0, 0]);
     print_byte(at, value);
     print_byte(second, other);
@@ -287,7 +287,7 @@ fn print_write(name: &[u8], replacement: u32, n: usize)
     let copy = [FILL; 416];
     let mut p = sample();
     p.replacement = replacement;
-    let written = outcomes::write(p, &mut buffer[..n], &copy[..n]);
+    let written = machines::write(p, &mut buffer[..n], &copy[..n]);
     let numbers = [n as u64, written.refusal as u64, 0, 0];
     print(name);
     if written.unchanged {
@@ -317,7 +317,7 @@ fn print_view(name: &[u8], replacement: u32, ram: usize, page: u64)
     let bytes = [FILL; 8192];
     let mut p = Processor::reset();
     p.replacement = replacement;
-    let found = view::locate(&bytes[..ram], p, page);
+    let found = page_view::locate(&bytes[..ram], p, page);
     print(name);
     print(b", page ");
     io::print_hex(STDOUT_FILENO, page, 5);

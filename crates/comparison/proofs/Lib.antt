@@ -1,3 +1,3 @@
--- The laws of `comparison`, in the order to read them.
+-- The laws of `comparison`.
 pub mod Orders
 pub mod Examples

@@ -13,7 +13,7 @@ use Rattle.comparison.specs.Comparison.{unsignedHolds, signedHolds}
 use Rattle.comparison.specs.declared.Order.{Order}
 use Rattle.comparison.specs.declared.Order.the-variants.{Equal, NotEqual, LessOrEqual, Less, GreaterOrEqual, Greater}
 use Rattle.words.proofs.Cases.{below-or-not, same-ltb, same-leb}
-use Rattle.words.proofs.Integers.{signed-low, signed-high}
+use Rattle.words.proofs.Integers.{by-signs}
 
 leb-not : (m n : ℕ) → leb m n ≡ not (ltb n m)
 leb-not m n =
@@ -33,14 +33,9 @@ module _ (x y : ℕ) (hx : x < 2 ^ 32) (hy : y < 2 ^ 32) where
   less =
       let a : ℕ = biased x in
       let b : ℕ = biased y in
-      below-or-not x (2 ^ 31)
-      (λ lx. below-or-not y (2 ^ 31)
-      (λ ly. rw (signed-low x lx, signed-low y ly) (same-ltb x y a b (λ h. omega arith) (λ h. omega arith)))
-      (λ ly. rw (signed-low x lx, signed-high y ly hy) (sym (le-ltb a b (omega arith)))))
-      (λ lx. below-or-not y (2 ^ 31)
-      (λ ly. rw (signed-high x lx hx, signed-low y ly) (sym (lt-ltb a b (omega arith))))
-      (λ ly. rw (signed-high x lx hx, signed-high y ly hy)
-      (same-ltb (4294967295 - y) (4294967295 - x) a b (λ h. omega arith) (λ h. omega arith))))
+      by-signs (λ u v. ltZ u v ≡ ltb a b) x y hx hy
+      (λ lx ly. same-ltb x y a b (λ h. omega arith) (λ h. omega arith)) (λ lx ly. sym (le-ltb a b (omega arith)))
+      (λ lx ly. sym (lt-ltb a b (omega arith))) (λ lx ly. same-ltb (4294967295 - y) (4294967295 - x) a b (λ h. omega arith) (λ h. omega arith))
 
   equal : eqb x y ≡ eqb (biased x) (biased y)
   equal = go (eqb x y) refl

@@ -1,2 +1,3 @@
 -- The laws of `compute`.
 pub mod Arms
+pub mod Results

@@ -8,7 +8,7 @@ use Rattle.quotients.specs.Quotients.{signedQuotient, unsignedQuotient, signedR
 use Rattle.bitwise.specs.Bitwise.{and, or, xor, xnor}
 use Rattle.shifts.specs.Shifts.{shiftLeft, shiftRight, shiftArithmetic, loadHigh}
 use Rattle.instructions.specs.Operands.{Operands, Simple, immediateS, immediateZ, intoR, intoY, fault, illegal}
-use Rattle.instructions.specs.declared.Action.{Action}
+use Rattle.instructions.specs.Action.{Action}
 
 -- a divisor of 0 faults (19)
 unfoldable pub unlessZero : ℕ → Action → Action

@@ -1,2 +1,2 @@
 -- The laws of `control`.
-pub mod Arms
+pub mod Targets

@@ -3,8 +3,8 @@ use mathlib.Core.List.{List, [], _∷_}
 use Rattle.comparison.specs.Comparison.{unsignedHolds, signedHolds}
 use Rattle.comparison.specs.declared.Order.the-variants.{Equal, NotEqual, LessOrEqual, Less, GreaterOrEqual, Greater}
 use Rattle.instructions.specs.Operands.{Simple}
-use Rattle.branches.specs.Branches.{target, jumpTo, branch}
-use Rattle.instructions.specs.declared.Action.the-variants.{Write}
+use Rattle.control.specs.Branches.{target, jumpTo, branch}
+use Rattle.instructions.specs.Action.{Write}
 
 -- 3.4.1
 abbrev pub BEQ : Simple

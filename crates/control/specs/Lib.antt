@@ -1,2 +1,3 @@
--- The definitions of `control`.
+-- The definitions of `control`, in the order to read them.
+pub mod Branches
 pub mod Control

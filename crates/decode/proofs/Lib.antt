@@ -1,5 +1,6 @@
--- The laws of `decode`, in the order to read them.
-pub mod Dispatch
+-- The laws of `decode`.
 pub mod Rows
+pub mod Dispatch
 pub mod Named
 pub mod Small
+pub mod Outcomes

@@ -1,2 +1,2 @@
--- The laws of `endian`, in the order to read them.
+-- The laws of `endian`.
 pub mod Widths

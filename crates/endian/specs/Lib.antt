@@ -1,2 +1,2 @@
--- The definitions of `endian`, in the order to read them.
+-- The definitions of `endian`.
 pub mod BigEndian

@@ -1,11 +1,15 @@
--- The numbers of exception entry: where service begins, and what Bad Address and Entry High become (manual, 2.8 and 2.9.6; document 01,
+-- The numbers of exception entry: where service begins, and what the registers Bad Address and Entry High become (manual, 2.8 and 2.9.6; document 01,
 -- "One step").
 use mathlib.Core.Bool.{Bool, cond}
 use Prim.Native.Nat.{ℕ, _+_}
 use lib.Dec.{leb, ltb, eqb}
 use Rattle.words.specs.Logic.{both}
 use Rattle.status.specs.Psw.{vector}
-use Rattle.kept.specs.Kept.{keptHigh}
+use Rattle.kept_bits.specs.Kept.{keptHigh}
+
+-- an exception's identifier is below 32; this stands for none
+abbrev pub noException : ℕ
+noException = 32
 
 -- ROM's or RAM's first address, by V
 unfoldable pub serviceBase : ℕ → ℕ

@@ -1,2 +1,2 @@
--- The laws of `expected`.
-pub mod ExpectedLaws
+-- The law of `expected`.
+pub mod RecordCompared

@@ -4,14 +4,16 @@ use mathlib.Core.List.{List}
 use Prim.Native.Nat.{ℕ}
 use lib.Dec.{eqb}
 use lib.ListN.{length, replicate}
+use denote.Ref.{now}
 use Rattle.words.specs.Logic.{both}
 use Rattle.memory.specs.Map.{Memory, memory}
+use Rattle.memory.specs.Lent.{Lent}
 use Rattle.processor.specs.declared.Processor.{Processor}
 use Rattle.processor.specs.State.{atReset, fit}
-use Rattle.state.specs.Machine.{Machine, machine}
-use Rattle.recordlayout.specs.Record.{recordOf}
+use Rattle.machine.specs.Machine.{Machine, machine}
+use Rattle.record_layout.specs.Record.{recordOf}
 use Rattle.record.specs.Calls.{processorRead, bufferAfter}
-use Rattle.slices.specs.Same.{same}
+use Rattle.bytes.specs.Same.{same}
 use Rattle.bytes.specs.Bytes.{copied, fits, patch}
 
 -- the bytes of the record, and memory
@@ -21,6 +23,13 @@ pub record Expected : Type 0 where
 
 abbrev pub expected : List ℕ → List ℕ → List ℕ → List ℕ → Expected
 expected bytes ram rom belt = record { bytes = bytes; memory = memory ram rom belt }
+
+-- in slices lent to a call, at its entry and at its exit
+abbrev pub expectedLent : Lent → Lent → Lent → Lent → Expected
+expectedLent bytes ram rom belt = expected (now (bytes .entry)) (now (ram .entry)) (now (rom .entry)) (now (belt .entry))
+
+abbrev pub expectedLeft : Lent → Lent → Lent → Lent → Expected
+expectedLeft bytes ram rom belt = expected (now (bytes .exit)) (now (ram .exit)) (now (rom .exit)) (now (belt .exit))
 
 -- ---- agreement
 
@@ -39,11 +48,12 @@ agrees x wanted m eid =
 
 -- ---- commands
 
+abbrev zeros : List ℕ → List ℕ
+zeros s = replicate (length s) 0
+
 -- the reset machine, and memory of zeros
 unfoldable pub clear : Expected → Expected
-clear x =
-    expected (bufferAfter atReset (x .bytes)) (replicate (length (x .memory .ram)) 0) (replicate (length (x .memory .rom)) 0)
-    (replicate (length (x .memory .belt)) 0)
+clear x = expected (bufferAfter atReset (x .bytes)) (zeros (x .memory .ram)) (zeros (x .memory .rom)) (zeros (x .memory .belt))
 
 -- a patch: 1 a word and 2 a byte of the record, 3 a word of RAM, 4 of ROM, 5 of the belt
 unfoldable pub patchFits : Expected → ℕ → ℕ → Bool
@@ -55,14 +65,13 @@ patchFits x kind at =
     (cond (eqb kind 5) (fits 4 (x .memory .belt) at)
     false))))
 
-abbrev pub bytesPatched : Expected → ℕ → ℕ → ℕ → Expected
-bytesPatched x w at v =
-    expected (patch w (x .bytes) at v) (x .memory .ram) (x .memory .rom) (x .memory .belt)
+abbrev withBytes : Expected → List ℕ → Expected
+withBytes x s = record { bytes = s; memory = x .memory }
 
 unfoldable pub patched : Expected → ℕ → ℕ → ℕ → Expected
 patched x kind at v =
-    cond (eqb kind 1) (bytesPatched x 4 at v)
-    (cond (eqb kind 2) (bytesPatched x 1 at v)
+    cond (eqb kind 1) (withBytes x (patch 4 (x .bytes) at v))
+    (cond (eqb kind 2) (withBytes x (patch 1 (x .bytes) at v))
     (cond (eqb kind 3) (expected (x .bytes) (patch 4 (x .memory .ram) at v) (x .memory .rom) (x .memory .belt))
     (cond (eqb kind 4) (expected (x .bytes) (x .memory .ram) (patch 4 (x .memory .rom) at v) (x .memory .belt))
     (cond (eqb kind 5) (expected (x .bytes) (x .memory .ram) (x .memory .rom) (patch 4 (x .memory .belt) at v))

@@ -1,2 +1,4 @@
 -- The laws of `instructions`.
 pub mod Arms
+pub mod Coding
+pub mod Words

@@ -1,2 +1,3 @@
 -- The definitions of `instructions`.
+pub mod Action
 pub mod Operands

@@ -2,9 +2,11 @@
 use mathlib.Core.List.{List}
 use Prim.Native.Nat.{ℕ, _/_, _%_, _^_}
 use Rattle.words.specs.Numbers.{zeroExtend, signExtend}
+use lib.ListN.{getD}
+use denote.Ref.{now}
 use Rattle.memory.specs.Map.{Memory}
-use Rattle.instructions.specs.declared.Action.{Action}
-use Rattle.instructions.specs.declared.Action.the-variants.{Write, Exception}
+use Rattle.memory.specs.Lent.{Lent, lent}
+use Rattle.instructions.specs.Action.{Action, Write, Exception}
 
 -- bits 31..26, 25..21, 20..16 and 15..11
 abbrev pub opcodeOf : ℕ → ℕ
@@ -29,6 +31,10 @@ pub record Operands : Type 0 where
 abbrev pub operands : ℕ → ℕ → ℕ → ℕ → Operands
 operands x y word next = record { x = x; y = y; word = word; next = next }
 
+-- with the registers read from a register file
+abbrev pub operandsIn : List ℕ → ℕ → ℕ → Operands
+operandsIn registers word next = operands (getD registers (fieldX word) 0) (getD registers (fieldY word) 0) word next
+
 -- what loads, stores and privileged instructions read besides
 pub record Surroundings : Type 0 where
   pub psw : ℕ
@@ -38,6 +44,10 @@ pub record Surroundings : Type 0 where
 
 abbrev pub surroundings : ℕ → List ℕ → List ℕ → Memory → Surroundings
 surroundings psw highs lows memory = record { psw = psw; highs = highs; lows = lows; memory = memory }
+
+-- as a contract names them, of what is lent to a call
+abbrev pub around : ℕ → Lent → Lent → Lent → Lent → Lent → Surroundings
+around psw highs lows ram rom belt = surroundings psw (now (highs .entry)) (now (lows .entry)) (lent ram rom belt)
 
 -- what an instruction does: from its operands alone, or from the surroundings too
 abbrev pub Simple : Type 0
@@ -65,7 +75,7 @@ intoY o v = Write (fieldY (o .word)) v (o .next)
 
 -- a fault that leaves no address
 abbrev pub fault : ℕ → Action
-fault eid = Exception eid 0 0
+fault eid = Exception eid 0
 
 -- opcodes 1E, 3E and 3F
 abbrev pub illegal : Simple

@@ -9,19 +9,17 @@ use lib.ListN.{length, getD, List·getD-eq-default}
 use borrow.Author.Tests.{eq-eqb}
 use Rattle.words.proofs.Cases.{below-or-not}
 use Rattle.memory.specs.Map.{Memory}
-use Rattle.processor.specs.State.{fit}
-use Rattle.recordlayout.specs.Record.{recordOf, kindsInPlace, processorOf}
-use Rattle.record.specs.Calls.{readRefusal}
-use Rattle.recordlayout.proofs.KindLaws.{means-kinds}
-use Rattle.recordlayout.proofs.Written.{record-length}
+use Rattle.record_layout.specs.Record.{recordOf, kindsInPlace, processorOf}
+use Rattle.record_layout.proofs.KindLaws.{means-kinds}
+use Rattle.record_layout.proofs.Written.{record-length}
 use Rattle.record.proofs.WrittenRead.{Value, holds}
-use Rattle.state.specs.Machine.{Machine, Words32, Representable}
-use Rattle.refusal.specs.Refusal.{check, memoryChecked, stepsChecked, runRefusal}
-use Rattle.steps.specs.Run.{Outcome, runFrom, refused, runOf}
-use Rattle.steps.proofs.RunRepresentable.{run-representable}
-use Rattle.recordcalls.specs.Records.{recordChecked}
-use Rattle.runcalls.specs.Runs.{machineIn, recorded, called, callRefusal, callOf}
-use Rattle.isolation.specs.Trace.{Entry, ByValue, Exported, Call, traceFrom, handedBack, outcomeBy, traceBy, callOutcome, callTrace}
+use Rattle.machine.specs.Machine.{Machine, Words32, Representable}
+use Rattle.refusals.specs.Refusal.{runRefusal}
+use Rattle.run_loop.specs.Run.{Request, Outcome, stepsOf, runFrom, refused, runOf}
+use Rattle.run_loop.proofs.Loop.{run-is}
+use Rattle.run_loop.proofs.Kept.{run-representable}
+use Rattle.run_calls.specs.Runs.{machineIn, recorded, called, callRefusal, callSteps, callOf}
+use Rattle.isolation.specs.Trace.{EntryPoint, ByValue, Exported, Call, handedBack, outcomeBy, stepsBy, machines, callOutcome, callTrace}
 
 -- ---- the record of a machine holds the machine
 
@@ -53,23 +51,11 @@ module _ (m : Machine) (r : Representable m) where
   machine-is = λ i. record { processor = holds (m .processor) (value m r) .1 i; memory = m .memory }
 
   -- only fitness can be missing in it
-  read-is : readRefusal s ≡ cond (fit (m .processor)) 0 6
-  unfolding readRefusal
-  read-is =
-      let kinds : kindsInPlace s ≡ true = means-kinds s (holds (m .processor) (value m r) .0) in
-      rw (eq-eqb (length s) 414 (record-length (m .processor) (value m r .arrays)), kinds, holds (m .processor) (value m r) .1)
-
-  checked-is : (rest : ℕ) → recordChecked s rest ≡ check (fit (m .processor)) 6 rest
-  unfolding recordChecked
-  checked-is rest = rw read-is (go (fit (m .processor)))
-    where
-      go : (t : Bool) → cond (eqb (cond t 0 6) 0) rest (cond t 0 6) ≡ check t 6 rest
-      go true = refl
-      go false = refl
-
   refusal-is : (wanted : ℕ) → callRefusal s (m .memory) wanted ≡ runRefusal m wanted
   unfolding callRefusal runRefusal
-  refusal-is wanted = ap (memoryChecked (m .memory)) (checked-is (stepsChecked wanted))
+  refusal-is wanted =
+      let kinds : kindsInPlace s ≡ true = means-kinds s (holds (m .processor) (value m r) .0) in
+      rw (eq-eqb (length s) 414 (record-length (m .processor) (value m r .arrays)), kinds, holds (m .processor) (value m r) .1)
 
 -- ---- an exported run is the run by value
 
@@ -80,34 +66,34 @@ handed-refused : (m : Machine) (number : ℕ) → Representable m
     → handedBack (called (recordOf (m .processor)) (m .memory) number 0 32) ≡ refused m number
 handed-refused m number r = λ i. record { machine = machine-is m r i; answer = refused m number .answer }
 
-module _ (kind : Bool) (m : Machine) (wanted lines : ℕ) (r : Representable m) where
-  exported-outcome : outcomeBy Exported kind m wanted lines ≡ runOf kind m wanted lines
-  unfolding callOf runOf
-  exported-outcome = rw (refusal-is m r wanted, machine-is m r) (go (eqb (runRefusal m wanted) 0))
+module _ (q : Request) (m : Machine) (r : Representable m) where
+  exported-outcome : outcomeBy Exported q m ≡ runOf q m
+  unfolding callOf
+  exported-outcome = rw (refusal-is m r (q .wanted), machine-is m r, run-is q m) (go (eqb (runRefusal m (q .wanted)) 0))
     where
-      go : (t : Bool) → handedBack (cond t (recorded (runFrom kind wanted 0 m lines)) (called (recordOf (m .processor)) (m .memory) (runRefusal m wanted) 0 32))
-          ≡ cond t (runFrom kind wanted 0 m lines) (refused m (runRefusal m wanted))
-      go true = handed-back (runFrom kind wanted 0 m lines) (run-representable kind wanted 0 m lines r)
-      go false = handed-refused m (runRefusal m wanted) r
+      go : (t : Bool)
+          → handedBack (cond t (recorded (runFrom q (q .wanted) 0 m)) (called (recordOf (m .processor)) (m .memory) (runRefusal m (q .wanted)) 0 32))
+          ≡ cond t (runFrom q (q .wanted) 0 m) (refused m (runRefusal m (q .wanted)))
+      go true = handed-back (runFrom q (q .wanted) 0 m) (run-representable q (q .wanted) 0 m r)
+      go false = handed-refused m (runRefusal m (q .wanted)) r
 
-  exported-trace : traceBy Exported kind m wanted lines ≡ traceBy ByValue kind m wanted lines
-  exported-trace = rw (refusal-is m r wanted, machine-is m r)
+  exported-steps : stepsBy Exported q m ≡ stepsOf q m
+  unfolding callSteps stepsOf
+  exported-steps = rw (refusal-is m r (q .wanted), machine-is m r)
 
-outcome-by : (e : Entry) (kind : Bool) (m : Machine) (wanted lines : ℕ) → Representable m
-    → outcomeBy e kind m wanted lines ≡ runOf kind m wanted lines
-outcome-by ByValue kind m wanted lines r = refl
-outcome-by Exported kind m wanted lines r = exported-outcome kind m wanted lines r
+outcome-by : (e : EntryPoint) (q : Request) (m : Machine) → Representable m → outcomeBy e q m ≡ runOf q m
+outcome-by ByValue q m r = refl
+outcome-by Exported q m r = exported-outcome q m r
 
-trace-by : (e : Entry) (kind : Bool) (m : Machine) (wanted lines : ℕ) → Representable m
-    → traceBy e kind m wanted lines ≡ traceBy ByValue kind m wanted lines
-trace-by ByValue kind m wanted lines r = refl
-trace-by Exported kind m wanted lines r = exported-trace kind m wanted lines r
+steps-by : (e : EntryPoint) (q : Request) (m : Machine) → Representable m → stepsBy e q m ≡ stepsOf q m
+steps-by ByValue q m r = refl
+steps-by Exported q m r = exported-steps q m r
 
 module _ (c : Call) (m : Machine) (r : Representable m) where
-  pub outcome-is : callOutcome c m ≡ runOf (c .kind) m (c .wanted) (c .lines)
+  pub outcome-is : callOutcome c m ≡ runOf (c .request) m
   unfolding callOutcome
-  outcome-is = outcome-by (c .entry) (c .kind) m (c .wanted) (c .lines) r
+  outcome-is = outcome-by (c .entry) (c .request) m r
 
-  pub trace-is : callTrace c m ≡ cond (eqb (runRefusal m (c .wanted)) 0) (traceFrom (c .kind) (c .wanted) m (c .lines)) []
+  pub trace-is : callTrace c m ≡ machines (stepsOf (c .request) m)
   unfolding callTrace
-  trace-is = trace-by (c .entry) (c .kind) m (c .wanted) (c .lines) r
+  trace-is = ap machines (steps-by (c .entry) (c .request) m r)

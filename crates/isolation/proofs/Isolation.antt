@@ -4,13 +4,13 @@ use mathlib.Core.Bool.{Bool, true, false, cond, true≢false}
 use mathlib.Core.List.{List, [], _∷_}
 use Prim.Native.Nat.{ℕ}
 use Rattle.memory.specs.Map.{Memory}
-use Rattle.state.specs.Machine.{Machine, Representable}
+use Rattle.machine.specs.Machine.{Machine, Representable}
 use Rattle.isolation.specs.Frames.{SameIn}
 use Rattle.words.specs.Lists.{Every, Pairwise}
 use Rattle.isolation.specs.Trace.{Call, inUserMode, callOutcome, callTrace, traceOf, upToLeaving, madeInUserMode, answersOf}
 use Rattle.isolation.specs.Claim.{Held, Alike, Confidential, Isolated}
-use Rattle.isolation.proofs.Lift.{Both, Ended}
-use Rattle.isolation.proofs.Runs.{call-ends, call-pairs}
+use Rattle.isolation.proofs.Lift.{Both}
+use Rattle.isolation.proofs.Runs.{Ended, call-ends, call-pairs}
 
 -- ---- the list
 
@@ -36,7 +36,7 @@ module _ (start : Machine) where
       chosen (madeInUserMode m (callTrace c m)) (madeInUserMode n (callTrace c n)) (ended .0)
       (λ all. ap₂ _∷_ (ended .1 all .1) (list-answers calls (callOutcome c m .machine) (callOutcome c n .machine) (ended .1 all .0)))
     where
-      ended : Ended start (c .lines) (c .kind) (madeInUserMode m (callTrace c m)) (madeInUserMode n (callTrace c n)) (callOutcome c m) (callOutcome c n)
+      ended : Ended start (madeInUserMode m (callTrace c m)) (madeInUserMode n (callTrace c n)) (callOutcome c m) (callOutcome c n)
       ended = call-ends start c m n b
 
 -- ---- a machine against itself

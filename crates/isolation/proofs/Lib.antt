@@ -1,4 +1,4 @@
--- The theorem, and what it is shown by, in the order to read them.
+-- The laws of `isolation`.
 pub mod UserActions
 pub mod SameActions
 pub mod SameLooks

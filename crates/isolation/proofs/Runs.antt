@@ -1,75 +1,128 @@
--- One run of a list, refused or made.
-use mathlib.Core.Path.{_≡_, refl, ap, ap₂, sym, subst, _∙_}
-use mathlib.Core.Bool.{Bool, true, false, cond}
+-- One run of a list from two machines, refused or made: its trace and its answer.
+use mathlib.Core.Path.{_≡_, refl, ap, sym, subst, _∙_}
+use mathlib.Core.Bool.{Bool, true, false, cond, true≢false}
 use mathlib.Core.List.{List, [], _∷_, _++_}
-use Prim.Native.Nat.{ℕ}
+use Prim.Native.Nat.{ℕ, suc}
 use lib.Dec.{eqb}
 use borrow.Author.Tests.{eqb-true}
-use Rattle.state.specs.Machine.{Machine}
-use Rattle.refusal.specs.Refusal.{runRefusal}
-use Rattle.steps.specs.Run.{Outcome, runFrom, refused, runOf}
-use Rattle.isolation.specs.Trace.{Call, inUserMode, traceFrom, callOutcome, callTrace, madeInUserMode}
+use Rattle.words.specs.Logic.{both}
+use Rattle.words.specs.Lists.{Pairwise}
+use Rattle.machine.specs.Machine.{Machine}
+use Rattle.step.specs.Step.{Stepped}
+use Rattle.refusals.specs.Refusal.{runRefusal}
+use Rattle.run_loop.specs.Run.{Request, Outcome, answer, ends, stepsFrom, stepsOf, counted, countedAll, refused, runOf}
+use Rattle.isolation.specs.Trace.{Call, inUserMode, machines, callOutcome, callTrace, upToLeaving, madeInUserMode}
 use Rattle.isolation.proofs.Entries.{outcome-is, trace-is}
-use Rattle.isolation.proofs.Lift.{Both, refusal-same, accepted-parts, Ended, run-ends, Pairs, Onward, run-pairs}
+use Rattle.isolation.proofs.Lift.{Both, mode-same, refusal-same, accepted-parts, Agree, steps-agree}
 
-module _ (start : Machine) (c : Call) (m n : Machine) (b : Both start m n) where
-  abbrev r : ℕ
-  r = runRefusal m (c .wanted)
+module _ (start : Machine) where
+  -- ---- whether all steps were made in User Mode, and then the machines and the answers
 
-  same : runRefusal n (c .wanted) ≡ r
-  same = refusal-same start m n b (c .wanted)
+  abbrev pub Ended : Bool → Bool → Outcome → Outcome → Type 0
+  Ended t u o p = (u ≡ t) × (t ≡ true → Both start (o .machine) (p .machine) × (o .answer ≡ p .answer))
 
-  -- the trace and the outcome by a refusal number
-  abbrev trace : Machine → ℕ → List Machine
-  trace k x = cond (eqb x 0) (traceFrom (c .kind) (c .wanted) k (c .lines)) []
+  module _ (q : Request) where
+    -- two outcomes with the same answer, one step with the same event further on
+    same-counted : (o p : Outcome) (s t : Stepped) → o .answer ≡ p .answer → s .event .eid ≡ t .event .eid
+        → counted q o s .answer ≡ counted q p t .answer
+    same-counted o p s t a e = λ i.
+        answer (a i .refusal) (suc (a i .steps)) (cond (ends (q .kind) (e i)) (e i) 32)
 
-  abbrev run : Machine → ℕ → Outcome
-  run k x = cond (eqb x 0) (runFrom (c .kind) (c .wanted) 0 k (c .lines)) (refused k x)
+    steps-end : (o p : Outcome) (ss ts : List Stepped) → Both start (o .machine) (p .machine) → o .answer ≡ p .answer
+        → Agree start (o .machine) (p .machine) ss ts
+        → Ended (madeInUserMode (o .machine) (machines ss)) (madeInUserMode (p .machine) (machines ts)) (countedAll q o ss) (countedAll q p ts)
+    unfolding madeInUserMode countedAll
+    steps-end o p [] [] b a agree = (refl, λ _. (b, a))
+    steps-end o p [] (t ∷ ts) b a agree = absurd agree
+    steps-end o p (s ∷ ss) [] b a agree = absurd agree
+    steps-end o p (s ∷ ss) (t ∷ ts) b a agree =
+        subst (λ (u : Bool). Ended (both (inUserMode (o .machine)) A) (both u B) F G) (sym (mode-same start (o .machine) (p .machine) b))
+        (go (inUserMode (o .machine)) refl (λ user. let (e, b′, rest) = agree user in
+        steps-end (counted q o s) (counted q p t) ss ts b′ (same-counted o p s t a e) rest))
+      where
+        A : Bool
+        A = madeInUserMode (s .machine) (machines ss)
 
-  abbrev E : Bool → Bool → Outcome → Outcome → Type 0
-  E = Ended start (c .lines) (c .kind)
+        B : Bool
+        B = madeInUserMode (t .machine) (machines ts)
 
-  first-trace : callTrace c m ≡ trace m r
-  first-trace = trace-is c m (b .first)
+        F : Outcome
+        F = countedAll q (counted q o s) ss
 
-  second-trace : callTrace c n ≡ trace n r
-  second-trace = trace-is c n (b .second) ∙ ap (trace n) same
+        G : Outcome
+        G = countedAll q (counted q p t) ts
 
-  first-outcome : callOutcome c m ≡ run m r
-  unfolding runOf
-  first-outcome = outcome-is c m (b .first)
+        go : (v : Bool) → inUserMode (o .machine) ≡ v → (inUserMode (o .machine) ≡ true → Ended A B F G) → Ended (both v A) (both v B) F G
+        go true user rest = rest user
+        go false e rest = (refl, λ no. absurd (true≢false (sym no)))
 
-  second-outcome : callOutcome c n ≡ run n r
-  unfolding runOf
-  second-outcome = outcome-is c n (b .second) ∙ ap (run n) same
+    -- ---- the trace, and then what comes after it
 
-  ends-by : (t : Bool) → eqb r 0 ≡ t
-      → E (madeInUserMode m (cond t (traceFrom (c .kind) (c .wanted) m (c .lines)) []))
-      (madeInUserMode n (cond t (traceFrom (c .kind) (c .wanted) n (c .lines)) []))
-      (cond t (runFrom (c .kind) (c .wanted) 0 m (c .lines)) (refused m r)) (cond t (runFrom (c .kind) (c .wanted) 0 n (c .lines)) (refused n r))
-  unfolding madeInUserMode
-  ends-by true e =
-      run-ends start (c .lines) (c .kind) (c .wanted) 0 m n b
-      (accepted-parts m (c .wanted) (eqb-true r 0 e)) (accepted-parts n (c .wanted) (same ∙ eqb-true r 0 e))
-  ends-by false e = (refl, λ _. (b, refl))
+    abbrev pub Pairs : List Machine → List Machine → Type 0
+    Pairs xs ys = Pairwise (Both start) (upToLeaving xs) (upToLeaving ys)
 
-  pub call-ends : E (madeInUserMode m (callTrace c m)) (madeInUserMode n (callTrace c n)) (callOutcome c m) (callOutcome c n)
-  call-ends = rw (first-trace, second-trace, first-outcome, second-outcome) (ends-by (eqb r 0) refl)
+    -- how it goes on from the machines at the end of the run
+    abbrev pub Onward : Machine → Machine → List Machine → List Machine → Type 0
+    Onward m n xs ys = Both start m n → inUserMode m ≡ true → Pairs xs ys
 
-  pairs-by : (t : Bool) → eqb r 0 ≡ t → inUserMode m ≡ true → (xs ys : List Machine)
-      → Onward start (c .lines) (c .kind)
-      (cond t (runFrom (c .kind) (c .wanted) 0 m (c .lines)) (refused m r) .machine)
-      (cond t (runFrom (c .kind) (c .wanted) 0 n (c .lines)) (refused n r) .machine) xs ys
-      → Pairs start (c .lines) (c .kind)
-      (cond t (traceFrom (c .kind) (c .wanted) m (c .lines)) [] ++ xs) (cond t (traceFrom (c .kind) (c .wanted) n (c .lines)) [] ++ ys)
-  pairs-by true e user xs ys on =
-      run-pairs start (c .lines) (c .kind) (c .wanted) 0 m n xs ys b user
-      (accepted-parts m (c .wanted) (eqb-true r 0 e)) (accepted-parts n (c .wanted) (same ∙ eqb-true r 0 e)) on
-  pairs-by false e user xs ys on = on b user
+    steps-pair : (o p : Outcome) (ss ts : List Stepped) (xs ys : List Machine) → Both start (o .machine) (p .machine) → inUserMode (o .machine) ≡ true
+        → Agree start (o .machine) (p .machine) ss ts → Onward (countedAll q o ss .machine) (countedAll q p ts .machine) xs ys
+        → Pairs (machines ss ++ xs) (machines ts ++ ys)
+    unfolding upToLeaving countedAll
+    steps-pair o p [] [] xs ys b user agree on = on b user
+    steps-pair o p [] (t ∷ ts) xs ys b user agree on = absurd agree
+    steps-pair o p (s ∷ ss) [] xs ys b user agree on = absurd agree
+    steps-pair o p (s ∷ ss) (t ∷ ts) xs ys b user agree on =
+        let (e, b′, rest) = agree user in (
+          b′,
+          subst (λ (u : Bool). Tails (inUserMode (s .machine)) u) (sym (mode-same start (s .machine) (t .machine) b′))
+              (go (inUserMode (s .machine)) refl (λ stay. steps-pair (counted q o s) (counted q p t) ss ts xs ys b′ stay rest on)),
+        )
+      where
+        Tails : Bool → Bool → Type 0
+        Tails v w = Pairwise (Both start) (cond v (upToLeaving (machines ss ++ xs)) []) (cond w (upToLeaving (machines ts ++ ys)) [])
 
-  pub call-pairs : inUserMode m ≡ true → (xs ys : List Machine)
-      → Onward start (c .lines) (c .kind) (callOutcome c m .machine) (callOutcome c n .machine) xs ys
-      → Pairs start (c .lines) (c .kind) (callTrace c m ++ xs) (callTrace c n ++ ys)
-  call-pairs user xs ys on =
-      rw (first-trace, second-trace)
-      (pairs-by (eqb r 0) refl user xs ys (rw (first-outcome, second-outcome) at on))
+        go : (v : Bool) → inUserMode (s .machine) ≡ v → (inUserMode (s .machine) ≡ true → Pairs (machines ss ++ xs) (machines ts ++ ys)) → Tails v v
+        go true stay rest = rest stay
+        go false left rest = tt
+
+  -- ---- a run of the list
+
+  module _ (c : Call) (m n : Machine) (b : Both start m n) where
+    abbrev q : Request
+    q = c .request
+
+    same : runRefusal n (q .wanted) ≡ runRefusal m (q .wanted)
+    same = refusal-same start m n b (q .wanted)
+
+    agree-by : (t : Bool) → eqb (runRefusal m (q .wanted)) 0 ≡ t
+        → Agree start m n (cond t (stepsFrom q (q .wanted) m) []) (cond t (stepsFrom q (q .wanted) n) [])
+    agree-by true e =
+        let none = eqb-true (runRefusal m (q .wanted)) 0 e in
+        steps-agree start q (q .wanted) m n b (accepted-parts m (q .wanted) none) (accepted-parts n (q .wanted) (same ∙ none))
+    agree-by false e = tt
+
+    agree : Agree start m n (stepsOf q m) (stepsOf q n)
+    unfolding stepsOf
+    agree = rw same (agree-by (eqb (runRefusal m (q .wanted)) 0) refl)
+
+    -- before any step
+    before-m : Outcome
+    before-m = refused m (runRefusal m (q .wanted))
+
+    before-n : Outcome
+    before-n = refused n (runRefusal n (q .wanted))
+
+    pub call-ends : Ended (madeInUserMode m (callTrace c m)) (madeInUserMode n (callTrace c n)) (callOutcome c m) (callOutcome c n)
+    unfolding runOf before-m before-n
+    call-ends =
+        rw (trace-is c m (b .first), trace-is c n (b .second), outcome-is c m (b .first), outcome-is c n (b .second))
+        (steps-end q before-m before-n (stepsOf q m) (stepsOf q n) b (λ i. answer (sym same i) 0 32) agree)
+
+    pub call-pairs : inUserMode m ≡ true → (xs ys : List Machine) → Onward q (callOutcome c m .machine) (callOutcome c n .machine) xs ys
+        → Pairs q (callTrace c m ++ xs) (callTrace c n ++ ys)
+    unfolding runOf before-m before-n
+    call-pairs user xs ys on =
+        rw (trace-is c m (b .first), trace-is c n (b .second))
+        (steps-pair q before-m before-n (stepsOf q m) (stepsOf q n) xs ys b user agree
+        (rw (outcome-is c m (b .first), outcome-is c n (b .second)) at on))

@@ -6,13 +6,14 @@ use Rattle.memory.specs.Map.{Memory}
 use Rattle.instructions.specs.Operands.{Surroundings, surroundings, Operands, Simple, Meaning, simple, illegal, opcodeOf, fieldY}
 use Rattle.compute.specs.Compute.{computations}
 use Rattle.control.specs.Control.{controls}
-use Rattle.reads.specs.Reads.{readFrom}
+use Rattle.access.specs.Reads.{readFrom}
 use Rattle.transfer.specs.Transfer.{addressOf, landed, load, transfers}
-use Rattle.writes.specs.Writes.{storeTo}
+use Rattle.access.specs.Writes.{storeTo}
 use Rattle.system.specs.System.{SystemMeaning, traps, systems}
 use Rattle.decode.specs.Table.{byPsw, executed}
 use Rattle.words.specs.Lists.{Every}
-use Rattle.decode.proofs.Rows.{_&_, row-at}
+use Rattle.words.proofs.Every.{_&_}
+use Rattle.decode.proofs.Rows.{row-at}
 
 module _ (psw : ℕ) (highs lows : List ℕ) (m n : Memory)
     (reads : (width blocks : ℕ) → blocks * width ≡ 4096 → (address : ℕ)

@@ -12,23 +12,22 @@ use Rattle.memory.specs.Access.{loadOf, storeAnswer, completes}
 use Rattle.memory.proofs.Frames.{one-frame}
 use Rattle.memory.proofs.OwnBytes.{Apart, SameLengths, load-same, same-place}
 use Rattle.status.specs.Psw.{userMode}
-use Rattle.interrupt.specs.Interrupt.{channel}
-use Rattle.lookup.specs.Lookup.{pageOf, lookup}
+use Rattle.look.specs.Interrupt.{channel}
+use Rattle.tlb.specs.Lookup.{pageOf, lookup}
 use Rattle.translation.specs.Translation.{frameOf, translated}
 use Rattle.processor.specs.declared.Processor.{Processor}
 use Rattle.translation.specs.declared.Translation.{Translation}
 use Rattle.translation.specs.declared.Translation.the-variants.{Physical, TlbMiss, TlbWrite, TlbInvalid, IllegalAddress, PrivilegedAddress}
 use Rattle.translation.proofs.Granted.{Granted, user-granted}
 use Rattle.instructions.specs.Operands.{Surroundings, surroundings}
-use Rattle.reads.specs.Reads.{answered, readThrough, readFrom}
-use Rattle.writes.specs.Writes.{settled, storeThrough, storeTo}
-use Rattle.instructions.specs.declared.Action.{Action}
-use Rattle.instructions.specs.declared.Action.the-variants.{Exception}
-use Rattle.reads.specs.declared.Read.{Read}
-use Rattle.reads.specs.declared.Read.the-variants.{Value, Fault}
-use Rattle.state.specs.Machine.{Machine}
+use Rattle.access.specs.Reads.{answered, readThrough, readFrom}
+use Rattle.access.specs.Writes.{settled, storeThrough, storeTo}
+use Rattle.instructions.specs.Action.{Action, Exception}
+use Rattle.access.specs.declared.Read.{Read}
+use Rattle.access.specs.declared.Read.the-variants.{Value, Fault}
+use Rattle.machine.specs.Machine.{Machine}
 use Rattle.look.specs.Look.{operandsOf, decoded, lookFrom}
-use Rattle.machine.specs.Step.{look}
+use Rattle.step.specs.Step.{look}
 use Rattle.isolation.specs.Frames.{frameAt, lowWord, ValidUserPage, Reached, ReachedWritable, SameIn}
 use Rattle.isolation.proofs.SameActions.{executed-same}
 
@@ -121,5 +120,5 @@ module _ (p : Processor) (user : userMode (p .psw) ≡ true) (m n : Memory) (apa
   pub look-same : (lines : ℕ) → look (record { processor = p; memory = m }) lines ≡ look (record { processor = p; memory = n }) lines
   unfolding look lookFrom
   look-same lines =
-      ap (cond (ltb (channel (p .psw) lines) 32) (Exception (channel (p .psw) lines) 0 0))
+      ap (cond (ltb (channel (p .psw) lines) 32) (Exception (channel (p .psw) lines) 0))
       (decoded-same (readFrom 4 s (p .pc)) ∙ ap (decoded t (p .registers) (p .pc)) (reads 4 1024 refl (p .pc)))

@@ -10,8 +10,8 @@ use Rattle.memory.specs.Access.{memoryAfter}
 use Rattle.memory.proofs.OwnBytes.{Apart}
 use Rattle.memory.proofs.StoreLaws.{store-lengths, store-rom, store-keeps}
 use Rattle.status.specs.Psw.{userMode, pushed}
-use Rattle.interrupt.specs.Interrupt.{channel}
-use Rattle.lookup.specs.Lookup.{lookup}
+use Rattle.look.specs.Interrupt.{channel}
+use Rattle.tlb.specs.Lookup.{lookup}
 use Rattle.translation.specs.Translation.{valid, writable, frameOf}
 use Rattle.exceptions.specs.Entry.{entryHighAfter, badAddressAfter}
 use Rattle.processor.specs.Exception.{entered}
@@ -19,16 +19,15 @@ use Rattle.processor.specs.Register.{written, jumped}
 use Rattle.processor.specs.declared.Processor.{Processor}
 use Rattle.status.proofs.PswLaws.{pushed-kernel}
 use Rattle.translation.proofs.Granted.{user-granted}
-use Rattle.reads.specs.Reads.{readFrom}
-use Rattle.instructions.specs.declared.Action.{Action}
-use Rattle.instructions.specs.declared.Action.the-variants.{Write, Store, System, Exception}
-use Rattle.reads.specs.declared.Read.{Read}
-use Rattle.reads.specs.declared.Read.the-variants.{Value, Fault}
-use Rattle.state.specs.Machine.{Machine}
+use Rattle.access.specs.Reads.{readFrom}
+use Rattle.instructions.specs.Action.{Action, Write, Store, System, Exception}
+use Rattle.access.specs.declared.Read.{Read}
+use Rattle.access.specs.declared.Read.the-variants.{Value, Fault}
+use Rattle.machine.specs.Machine.{Machine}
 use Rattle.look.specs.Look.{operandsOf, decoded, lookFrom}
-use Rattle.actions.specs.Actions.{storeWidth}
-use Rattle.machine.specs.Step.{surroundingsOf, look, processorAfter, memoryDone, done, stepOf, stepEid, eidOf}
-use Rattle.machine.proofs.Looks.{step-done}
+use Rattle.actions.specs.Actions.{processorAfter, storeWidth}
+use Rattle.step.specs.Step.{surroundingsOf, look, memoryDone, done, stepOf, eidOf}
+use Rattle.step.proofs.Looks.{step-done}
 use Rattle.isolation.specs.Frames.{frameAt, lowWord, ValidUserPage, Reached, ReachedWritable, SameIn}
 use Rattle.isolation.specs.Trace.{inUserMode}
 use Rattle.isolation.specs.Claim.{Specials, specialsOf, Left, Held, Alike}
@@ -49,7 +48,7 @@ look-user m lines user =
     go (ltb (channel (m .processor .psw) lines) 32)
   where
     go : (t : Bool) → UserAction (surroundingsOf m)
-        (cond t (Exception (channel (m .processor .psw) lines) 0 0)
+        (cond t (Exception (channel (m .processor .psw) lines) 0)
         (decoded (surroundingsOf m) (m .processor .registers) (m .processor .pc) (readFrom 4 (surroundingsOf m) (m .processor .pc))))
     go true = tt
     go false = decoded-user m user (readFrom 4 (surroundingsOf m) (m .processor .pc))
@@ -129,8 +128,8 @@ module _ (start m : Machine) (held : Held start m) (user : inUserMode m ≡ true
         staying = λ _. held .staying user;
         leaving = λ no. absurd (true≢false (sym user ∙ no));
       }
-  held-after (System opcode z v) u e = absurd u
-  held-after (Exception eid address unused) u e =
+  held-after (System i) u e = absurd u
+  held-after (Exception eid address) u e =
       record {
         tlbhigh = held .tlbhigh;
         tlblow = held .tlblow;
@@ -143,17 +142,16 @@ module _ (start m : Machine) (held : Held start m) (user : inUserMode m ≡ true
           lines = lines;
           eid = eid;
           address = address;
-          unused = unused;
           user = user;
           kept = held .staying user;
           named = e;
-          step = sym (step-done m lines (Exception eid address unused) e);
+          step = sym (step-done m lines (Exception eid address) e);
           processor = refl;
           specials = ap (enteredSpecials eid address) (held .staying user);
         };
       }
 
-  pub step-held : Held start (stepOf m lines)
+  pub step-held : Held start (stepOf m lines .machine)
   unfolding stepOf
   step-held = held-after (look m lines) (look-user m lines user) refl
 
@@ -162,8 +160,8 @@ module _ (start m : Machine) (held : Held start m) (user : inUserMode m ≡ true
 memory-alike : (F : ℕ → Type 0) (m n : Memory) → SameIn F m n → (a : Action) → SameIn F (memoryDone m a) (memoryDone n a)
 memory-alike F m n same (Write r v next) = same
 memory-alike F m n same (Store width physical v) = store-same (storeWidth width) physical v F m n same
-memory-alike F m n same (System opcode z v) = same
-memory-alike F m n same (Exception eid address unused) = same
+memory-alike F m n same (System i) = same
+memory-alike F m n same (Exception eid address) = same
 
 module _ (q : Processor) (m n : Machine) (alike : Alike q m n)
     (high : m .processor .tlbhigh ≡ q .tlbhigh) (low : m .processor .tlblow ≡ q .tlblow)
@@ -189,11 +187,11 @@ module _ (q : Processor) (m n : Machine) (alike : Alike q m n)
       look-same (m .processor) user (m .memory) (n .memory) apart apart′ own lines
       ∙ ap (λ (k : Machine). look k lines) n-is
 
-  pub eid-alike : stepEid m lines ≡ stepEid n lines
-  unfolding stepEid
+  pub eid-alike : stepOf m lines .event .eid ≡ stepOf n lines .event .eid
+  unfolding stepOf
   eid-alike = ap eidOf look-alike
 
-  pub step-alike : Alike q (stepOf m lines) (stepOf n lines)
+  pub step-alike : Alike q (stepOf m lines .machine) (stepOf n lines .machine)
   unfolding stepOf
   step-alike =
       record {

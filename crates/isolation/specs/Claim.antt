@@ -3,13 +3,12 @@ use mathlib.Core.Path.{_≡_}
 use mathlib.Core.Bool.{true, false}
 use mathlib.Core.List.{List}
 use Prim.Native.Nat.{ℕ}
-use Rattle.memory.specs.Map.{byteAt}
 use Rattle.processor.specs.declared.Processor.{Processor}
 use Rattle.processor.specs.Exception.{entered}
-use Rattle.instructions.specs.declared.Action.the-variants.{Exception}
-use Rattle.state.specs.Machine.{Machine, Representable}
-use Rattle.machine.specs.Step.{look, stepOf}
-use Rattle.isolation.specs.Frames.{frameAt, Reached, ReachedWritable, SameIn}
+use Rattle.instructions.specs.Action.{Exception}
+use Rattle.machine.specs.Machine.{Machine, Representable}
+use Rattle.step.specs.Step.{look, stepOf}
+use Rattle.isolation.specs.Frames.{Reached, ReachedWritable, SameIn}
 use Rattle.words.specs.Lists.{Every, Pairwise}
 use Rattle.isolation.specs.Trace.{Call, inUserMode, traceOf, upToLeaving, answersOf}
 
@@ -40,11 +39,10 @@ pub record Left (start m : Machine) : Type 0 where
   pub lines : ℕ
   pub eid : ℕ
   pub address : ℕ
-  pub unused : ℕ
   pub user : inUserMode before ≡ true
   pub kept : specialsOf (before .processor) ≡ specialsOf (start .processor)
-  pub named : look before lines ≡ Exception eid address unused
-  pub step : m ≡ stepOf before lines
+  pub named : look before lines ≡ Exception eid address
+  pub step : m ≡ stepOf before lines .machine
   pub processor : m .processor ≡ entered (before .processor) eid address
   pub specials : specialsOf (m .processor) ≡ specialsOf (entered (start .processor) eid address)
 

@@ -5,7 +5,7 @@ use Prim.Native.Nat.{ℕ, _/_, _<_}
 use lib.ListN.{length, getD}
 use Rattle.memory.specs.Map.{Memory, byteAt}
 use Rattle.processor.specs.declared.Processor.{Processor}
-use Rattle.lookup.specs.Lookup.{lookup}
+use Rattle.tlb.specs.Lookup.{noEntry, lookup}
 use Rattle.translation.specs.Translation.{frameOf, valid, writable}
 
 -- the frame of a physical address: 4,096 addresses from a multiple of 4,096
@@ -19,7 +19,7 @@ lowWord p page = getD (p .tlblow) (lookup (p .tlbhigh) page) 0
 -- a page below 80000 whose entry by the lookup is valid and names a frame
 pub record ValidUserPage (p : Processor) (page frame : ℕ) : Type 0 where
   pub user : page < 0x80000
-  pub entry : lookup (p .tlbhigh) page < 32
+  pub entry : lookup (p .tlbhigh) page < noEntry
   pub allowed : valid (lowWord p page) ≡ true
   pub names : frameOf (lowWord p page) ≡ frame
 

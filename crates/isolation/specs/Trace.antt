@@ -1,61 +1,53 @@
 -- A list of runs, the machine after every step of it, and the answers that are compared (document 01, "Runs and views").
 use mathlib.Core.Bool.{Bool, true, cond}
 use mathlib.Core.List.{List, [], _∷_, _++_}
-use Prim.Native.Nat.{ℕ, zero, suc}
-use lib.Dec.{eqb}
 use Rattle.words.specs.Logic.{both}
 use Rattle.status.specs.Psw.{userMode}
-use Rattle.state.specs.Machine.{Machine}
-use Rattle.machine.specs.Step.{stepOf, stepEid}
-use Rattle.refusal.specs.Refusal.{runRefusal}
-use Rattle.steps.specs.Run.{Answer, Outcome, ends, runOf}
-use Rattle.recordlayout.specs.Record.{recordOf}
-use Rattle.runcalls.specs.Runs.{Called, machineIn, callRefusal, callOf}
+use Rattle.machine.specs.Machine.{Machine}
+use Rattle.step.specs.Step.{Stepped}
+use Rattle.run_loop.specs.Run.{Request, Answer, Outcome, stepsOf, runOf}
+use Rattle.record_layout.specs.Record.{recordOf}
+use Rattle.run_calls.specs.Runs.{Called, machineIn, callSteps, callOf}
 
 -- PSW bit 26 is 1
 abbrev pub inUserMode : Machine → Bool
 inUserMode m = userMode (m .processor .psw)
 
 -- where a run is entered: with the processor by value, or as an exported call with the machine as its record
-pub data Entry : Type 0 where
-  ByValue : Entry
-  Exported : Entry
+pub data EntryPoint : Type 0 where
+  ByValue : EntryPoint
+  Exported : EntryPoint
 
--- a run of the list: its entry point, kind, wanted steps and interrupt lines
+-- a run of the list: its entry point, and what it is asked
 pub record Call : Type 0 where
-  pub entry : Entry
-  pub kind : Bool
-  pub wanted : ℕ
-  pub lines : ℕ
+  pub entry : EntryPoint
+  pub request : Request
 
 -- ---- one run
-
--- the machine after every step of n steps at most
-unfoldable pub traceFrom : Bool → ℕ → Machine → ℕ → List Machine
-traceFrom kind zero m lines = []
-traceFrom kind (suc n) m lines =
-    stepOf m lines ∷ cond (ends kind (stepEid m lines)) [] (traceFrom kind n (stepOf m lines) lines)
 
 -- the machine of a record, and the memory, after an exported run
 abbrev pub handedBack : Called → Outcome
 handedBack c = record { machine = machineIn (c .buffer) (c .memory); answer = c .answer }
 
-abbrev pub outcomeBy : Entry → Bool → Machine → ℕ → ℕ → Outcome
-outcomeBy ByValue kind m wanted lines = runOf kind m wanted lines
-outcomeBy Exported kind m wanted lines = handedBack (callOf kind (recordOf (m .processor)) (m .memory) wanted lines)
+abbrev pub outcomeBy : EntryPoint → Request → Machine → Outcome
+outcomeBy ByValue q m = runOf q m
+outcomeBy Exported q m = handedBack (callOf q (recordOf (m .processor)) (m .memory))
 
 -- a refused run makes no step
-abbrev pub traceBy : Entry → Bool → Machine → ℕ → ℕ → List Machine
-traceBy ByValue kind m wanted lines = cond (eqb (runRefusal m wanted) 0) (traceFrom kind wanted m lines) []
-traceBy Exported kind m wanted lines =
-    cond (eqb (callRefusal (recordOf (m .processor)) (m .memory) wanted) 0)
-    (traceFrom kind wanted (machineIn (recordOf (m .processor)) (m .memory)) lines) []
+abbrev pub stepsBy : EntryPoint → Request → Machine → List Stepped
+stepsBy ByValue q m = stepsOf q m
+stepsBy Exported q m = callSteps q (recordOf (m .processor)) (m .memory)
 
 unfoldable pub callOutcome : Call → Machine → Outcome
-callOutcome c m = outcomeBy (c .entry) (c .kind) m (c .wanted) (c .lines)
+callOutcome c m = outcomeBy (c .entry) (c .request) m
+
+-- the machine after every step
+abbrev pub machines : List Stepped → List Machine
+machines [] = []
+machines (s ∷ ss) = s .machine ∷ machines ss
 
 unfoldable pub callTrace : Call → Machine → List Machine
-callTrace c m = traceBy (c .entry) (c .kind) m (c .wanted) (c .lines)
+callTrace c m = machines (stepsBy (c .entry) (c .request) m)
 
 -- ---- the list: each run takes the machine that the one before it returned and the bytes that it left
 

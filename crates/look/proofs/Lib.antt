@@ -1,2 +1,4 @@
 -- The laws of `look`.
+pub mod ChannelLoop
+pub mod Ready
 pub mod Looks

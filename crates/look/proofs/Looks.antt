@@ -3,18 +3,17 @@ use mathlib.Core.Path.{_≡_, ap}
 use mathlib.Core.List.{List}
 use Prim.Native.Nat.{ℕ, _≤_, _<_}
 use borrow.Author.Tests.{lt-ltb, le-ltb}
-use Rattle.interrupt.specs.Interrupt.{channel}
+use Rattle.look.specs.Interrupt.{channel}
 use Rattle.instructions.specs.Operands.{Surroundings, operands}
 use Rattle.decode.specs.Table.{executed}
-use Rattle.reads.specs.Reads.{readFrom}
-use Rattle.instructions.specs.declared.Action.{Action}
-use Rattle.instructions.specs.declared.Action.the-variants.{Exception}
-use Rattle.reads.specs.declared.Read.{Read}
+use Rattle.access.specs.Reads.{readFrom}
+use Rattle.instructions.specs.Action.{Action, Exception}
+use Rattle.access.specs.declared.Read.{Read}
 use Rattle.look.specs.Look.{decoded, lookFrom}
 
 module _ (s : Surroundings) (registers : List ℕ) (pc lines : ℕ) where
   -- an interrupt that is due
-  pub look-interrupt : (ch : ℕ) → ch ≡ channel (s .psw) lines → ch < 32 → Exception ch 0 0 ≡ lookFrom s registers pc lines
+  pub look-interrupt : (ch : ℕ) → ch ≡ channel (s .psw) lines → ch < 32 → Exception ch 0 ≡ lookFrom s registers pc lines
   unfolding lookFrom
   look-interrupt ch e h = rw (← e) (simp (lt-ltb ch 32 h))
 

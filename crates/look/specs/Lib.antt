@@ -1,2 +1,3 @@
--- The definitions of `look`.
+-- The definitions of `look`, in the order to read them.
+pub mod Interrupt
 pub mod Look

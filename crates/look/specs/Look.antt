@@ -3,27 +3,25 @@ use mathlib.Core.Bool.{cond}
 use mathlib.Core.List.{List}
 use Prim.Native.Nat.{ℕ}
 use lib.Dec.{ltb}
-use lib.ListN.{getD}
 use Rattle.sums.specs.Sums.{sum}
-use Rattle.interrupt.specs.Interrupt.{channel}
-use Rattle.instructions.specs.Operands.{Surroundings, Operands, operands, fieldX, fieldY}
-use Rattle.reads.specs.Reads.{readFrom}
+use Rattle.look.specs.Interrupt.{noChannel, channel}
+use Rattle.instructions.specs.Operands.{Surroundings, Operands, operandsIn}
+use Rattle.access.specs.Reads.{readFrom}
 use Rattle.decode.specs.Table.{executed}
-use Rattle.instructions.specs.declared.Action.{Action}
-use Rattle.instructions.specs.declared.Action.the-variants.{Exception}
-use Rattle.reads.specs.declared.Read.{Read}
-use Rattle.reads.specs.declared.Read.the-variants.{Value, Fault}
+use Rattle.instructions.specs.Action.{Action, Exception}
+use Rattle.access.specs.declared.Read.{Read}
+use Rattle.access.specs.declared.Read.the-variants.{Value, Fault}
 
 -- the instruction word's operands in the register file
 abbrev pub operandsOf : List ℕ → ℕ → ℕ → Operands
-operandsOf registers pc word = operands (getD registers (fieldX word) 0) (getD registers (fieldY word) 0) word (sum pc 4)
+operandsOf registers pc word = operandsIn registers word (sum pc 4)
 
 -- what is done with the fetched word, or with the fault of the fetch
 abbrev pub decoded : Surroundings → List ℕ → ℕ → Read → Action
 decoded s registers pc (Value word) = executed s (operandsOf registers pc word)
-decoded s registers pc (Fault eid) = Exception eid pc 0
+decoded s registers pc (Fault eid) = Exception eid pc
 
 -- an interrupt first; otherwise the instruction at the PC
 unfoldable pub lookFrom : Surroundings → List ℕ → ℕ → ℕ → Action
 lookFrom s registers pc lines =
-    cond (ltb (channel (s .psw) lines) 32) (Exception (channel (s .psw) lines) 0 0) (decoded s registers pc (readFrom 4 s pc))
+    cond (ltb (channel (s .psw) lines) noChannel) (Exception (channel (s .psw) lines) 0) (decoded s registers pc (readFrom 4 s pc))

@@ -1,12 +1,44 @@
-// The look: what a step does, named before anything is done.
-use instructions::Action;
+// The look: what a step does, named before anything is done. An interrupt comes first, then the instruction at the PC.
+use access::Read;
+use instructions::Coded;
+use processor::Processor;
 use processor::Words;
-use reads::Read;
 ghost use mathlib.Core.Path.{_≡_};
-ghost use Rattle.memory.specs.Map.{memory};
-ghost use Rattle.found.specs.Found.{Serves};
-ghost use Rattle.instructions.specs.Operands.{surroundings};
+ghost use Rattle.look.specs.Interrupt.{lowest, channel};
+ghost use Rattle.tlb.specs.Found.{Serves};
+ghost use Rattle.instructions.specs.Operands.{around};
 ghost use Rattle.look.specs.Look.{lookFrom};
+ghost use Rattle.instructions.specs.Action.{actionOf};
+
+// The number of the lowest bit that is set of 16, or 32.
+fn lowest_ready(ready: u32) -> u32
+    ensures { λ r. ⌜ r ≡ lowest 16 0 ready ⌝ }
+{
+    let mut rest = ready;
+    let mut i: u32 = 0;
+    while i < 16 {
+        if rest % 2 == 1 {
+            return i;
+        }
+        rest = rest / 2;
+        i += 1;
+    }
+    Processor::NO_EXCEPTION
+}
+
+// The channel that is accepted, or 32.
+pub fn accepted(psw: u32, lines: u32) -> u32
+    ensures { λ r. ⌜ r ≡ channel psw lines ⌝ }
+{
+    if psw / 0x80_0000 % 2 == 1 {
+        let ready = lines & (psw % 0x1_0000);
+        if ready == 0 {
+            return Processor::NO_EXCEPTION;
+        }
+        return lowest_ready(ready);
+    }
+    Processor::NO_EXCEPTION
+}
 
 // What the step does, from what it reads; `i` is the index of the PC's page.
 pub fn look_at<'a>(
@@ -20,15 +52,15 @@ pub fn look_at<'a>(
     rom: &[u8],
     belt: &[u8],
     lines: u32,
-) -> Action
+) -> Coded
     requires { ⌜ Serves (now highs) i pc ⌝ }
-    ensures { λ r. ⌜ r ≡ lookFrom (surroundings psw (now (highs .entry)) (now (lows .entry)) (memory (now (ram .entry)) (now (rom .entry)) (now (belt .entry)))) (now (registers .entry)) pc lines ⌝ }
+    ensures { λ r. ⌜ actionOf r ≡ lookFrom (around psw highs lows ram rom belt) (now (registers .entry)) pc lines ⌝ }
 {
-    let channel = interrupt::accepted(psw, lines);
+    let channel = accepted(psw, lines);
     if channel < 32 {
-        return Action::Exception(channel, 0, 0);
+        return Coded::Exception(channel, 0, 0);
     }
-    let fetched = reads::fetch(psw, highs, lows, i, ram, rom, belt, pc);
+    let fetched = access::fetch(psw, highs, lows, i, ram, rom, belt, pc);
     match fetched {
         Read::Value(word) => decode::execute(
             registers,
@@ -41,23 +73,6 @@ pub fn look_at<'a>(
             word,
             sums::add(pc, 4),
         ),
-        Read::Fault(eid) => Action::Exception(eid, pc, 0),
+        Read::Fault(eid) => Coded::Exception(eid, pc, 0),
     }
-}
-
-pub fn look<'a>(
-    registers: &'a Words,
-    pc: u32,
-    psw: u32,
-    highs: &'a Words,
-    lows: &'a Words,
-    ram: &[u8],
-    rom: &[u8],
-    belt: &[u8],
-    lines: u32,
-) -> Action
-    ensures { λ r. ⌜ r ≡ lookFrom (surroundings psw (now (highs .entry)) (now (lows .entry)) (memory (now (ram .entry)) (now (rom .entry)) (now (belt .entry)))) (now (registers .entry)) pc lines ⌝ }
-{
-    let i = found::index_of(highs, pc);
-    look_at(registers, pc, psw, highs, lows, i, ram, rom, belt, lines)
 }

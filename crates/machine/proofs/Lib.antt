@@ -1,9 +1,3 @@
--- The laws of `machine`, in the order to read them.
-pub mod Looks
-pub mod StepLaws
-pub mod PcLaws
-pub mod StepFit
-pub mod RepresentableKept
-pub mod StepRepresentable
-pub mod Named
-pub mod StarredCases
+-- The laws of `machine`.
+pub mod Tests
+pub mod Representing

@@ -1,2 +1,2 @@
 -- The definitions of `machine`.
-pub mod Step
+pub mod Machine

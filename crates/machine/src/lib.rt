@@ -1,53 +1,47 @@
-// One step of the machine: a look that changes nothing, and then its action.
-use instructions::Action;
+// Which processors are fit (document 01, cause 6 of "Refused calls"). The machine itself is a definition alone: in the code the
+// processor goes by value, and the memory stays with the host.
 use processor::Processor;
+use processor::Words;
 ghost use mathlib.Core.Path.{_≡_};
-ghost use Rattle.state.specs.Machine.{machine};
-ghost use Rattle.machine.specs.Step.{stepOf, stepEid};
+ghost use Rattle.words.specs.Logic.{both};
+ghost use Rattle.kept_bits.specs.Kept.{keptHigh, keptLow, onlyFrom};
+ghost use Rattle.kept_bits.specs.Code.{onlySpecial};
+ghost use Rattle.processor.specs.State.{fit};
 
-// The processor after a step, and the exception that it accepted, or 32.
-pub struct Stepped {
-    pub processor: Processor,
-    pub eid: u32,
+// Whether PSW, TLB Index, Entry High and Entry Low have only bits that they keep.
+fn only_special(psw: u32, index: u32, high: u32, low: u32) -> bool
+    ensures { λ r. ⌜ r ≡ onlySpecial psw index high low ⌝ }
+{
+    (kept_bits::kept_psw(psw) == psw)
+        & (kept_bits::kept_index(index) == index)
+        & (kept_bits::kept_high(high) == high)
+        & (kept_bits::kept_low(low) == low)
 }
 
-pub fn step(p: Processor, ram: &mut [u8], rom: &[u8], belt: &mut [u8], lines: u32) -> Stepped
-    ensures state { λ r. ⌜ machine (r .processor) (now (ram .exit)) (now (rom .entry)) (now (belt .exit)) ≡ stepOf (machine p (now (ram .entry)) (now (rom .entry)) (now (belt .entry))) lines ⌝ }
-    ensures eid { λ r. ⌜ r .eid ≡ stepEid (machine p (now (ram .entry)) (now (rom .entry)) (now (belt .entry))) lines ⌝ }
+// The same for the high words and the low words of a TLB.
+fn only_words(highs: &Words, lows: &Words) -> bool
+    ensures { λ r. ⌜ r ≡ both (onlyFrom keptHigh 32 (now (highs .entry)) 0) (onlyFrom keptLow 32 (now (lows .entry)) 0) ⌝ }
+{
+    let mut only = true;
+    let mut i: usize = 0;
+    while i < 32 {
+        let high = highs[i];
+        let low = lows[i];
+        only = only & (kept_bits::kept_high(high) == high) & (kept_bits::kept_low(low) == low);
+        i += 1;
+    }
+    only
+}
+
+pub fn is_fit(p: Processor) -> bool
+    ensures { λ r. ⌜ r ≡ fit p ⌝ }
 {
     let registers = p.registers;
-    let highs = p.tlbhigh;
-    let lows = p.tlblow;
-    let action = look::look(
-        &registers,
-        p.pc,
-        p.psw,
-        &highs,
-        &lows,
-        &ram[..],
-        rom,
-        &belt[..],
-        lines,
-    );
-    match action {
-        Action::Write(n, v, next) => Stepped {
-            processor: p.write(n, v, next),
-            eid: Processor::NO_EXCEPTION,
-        },
-        Action::Store(width, physical, v) => {
-            actions::store(ram, rom, belt, width, physical, v);
-            Stepped {
-                processor: p.jump(sums::add(p.pc, 4)),
-                eid: Processor::NO_EXCEPTION,
-            }
-        }
-        Action::System(opcode, z, v) => Stepped {
-            processor: actions::system(p, opcode, z, v),
-            eid: Processor::NO_EXCEPTION,
-        },
-        Action::Exception(eid, address, _) => Stepped {
-            processor: p.enter(eid, address),
-            eid: eid,
-        },
-    }
+    let tlbhigh = p.tlbhigh;
+    let tlblow = p.tlblow;
+    (registers[0] == 0)
+        & (4 <= p.replacement)
+        & (p.replacement <= 31)
+        & only_special(p.psw, p.index, p.entryhigh, p.entrylow)
+        & only_words(&tlbhigh, &tlblow)
 }

@@ -1,3 +1,2 @@
--- The laws of `machines`, in the order to read them.
-pub mod TestLaws
+-- The law of `machines`.
 pub mod Equal

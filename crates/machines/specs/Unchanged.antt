@@ -1,12 +1,13 @@
--- Whether a machine is one that is known, as a test.
+-- Whether a machine is one that is known, as a test; and the run after which that is asked.
 use mathlib.Core.Bool.{Bool}
 use mathlib.Core.List.{List}
 use Prim.Native.Nat.{ℕ}
 use lib.Dec.{eqb}
 use Rattle.words.specs.Logic.{both}
-use Rattle.slices.specs.Same.{same}
+use Rattle.bytes.specs.Same.{same}
 use Rattle.processor.specs.declared.Processor.{Processor}
-use Rattle.state.specs.Machine.{Machine}
+use Rattle.machine.specs.Machine.{Machine}
+use Rattle.run_loop.specs.Run.{Outcome, request, runOf}
 
 unfoldable pub sameSpecial : Processor → Processor → Bool
 sameSpecial p q =
@@ -29,3 +30,7 @@ sameProcessor p q =
 unfoldable pub sameMachine : Processor → List ℕ → List ℕ → Machine → Bool
 sameMachine p ram belt m =
     both (sameProcessor p (m .processor)) (both (same ram (m .memory .ram)) (same belt (m .memory .belt)))
+
+-- a run with lines 0
+abbrev pub ran : Bool → Machine → ℕ → Outcome
+ran kind m wanted = runOf (request kind wanted 0) m

@@ -1,4 +1,4 @@
--- The laws of `memory`, in the order to read them.
+-- The laws of `memory`.
 pub mod Places
 pub mod Outcomes
 pub mod OwnBytes

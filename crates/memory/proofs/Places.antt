@@ -5,6 +5,7 @@ use Prim.Native.Nat.{ℕ, _+_, _-_, _≤_, _<_}
 use native.Mathlib.Omega.{arith}
 use lib.Dec.{leb, eqb}
 use borrow.Author.Tests.{leb-true, leb-false, le-leb, lt-leb, eqb-true, eq-eqb, ne-eqb}
+use Rattle.words.proofs.Cases.{case}
 use Rattle.words.specs.Logic.{both}
 use Rattle.words.proofs.Conjunction.{both-true}
 use Rattle.memory.specs.Map.{within, locate, wordsOnly, placeOf, romBase, beltBase}
@@ -72,10 +73,6 @@ Lies w r o b a (Ram at) = (at ≡ a) × (at + w ≤ r)
 Lies w r o b a (Rom at) = (romBase + at ≡ a) × (at + w ≤ o)
 Lies w r o b a (Belt at) = (beltBase + at ≡ a) × (at + w ≤ b)
 Lies w r o b a Nothing = Unit {0}
-
-case : (P : Place → Type 0) (t : Bool) {p q : Place} → (t ≡ true → P p) → (t ≡ false → P q) → P (cond t p q)
-case P true f g = f refl
-case P false f g = g refl
 
 module _ (w r o b a : ℕ) where
   pub lies : Lies w r o b a (locate w r o b a)

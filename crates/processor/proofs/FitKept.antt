@@ -1,137 +1,93 @@
 -- Every operation keeps a fit state fit, and the state at reset is fit.
 use mathlib.Core.Path.{_≡_, refl, sym, _∙_}
-use mathlib.Core.Bool.{Bool, true, false, cond}
+use mathlib.Core.Bool.{Bool, true, cond}
+use mathlib.Core.List.{List}
 use Prim.Native.Nat.{ℕ, _%_, _≤_}
 use native.Mathlib.Omega.{arith}
 use lib.Dec.{eqb, leb}
 use lib.ListN.{getD, set}
 use lib.Seq.{getD-set-other}
 use borrow.Author.Tests.{eqb-false, lt-ltb, le-ltb}
-use Rattle.words.proofs.Cases.{below-or-not}
+use Rattle.words.proofs.Cases.{chosen, case, below-or-not}
 use Rattle.words.specs.Logic.{both}
 use Rattle.status.specs.Psw.{pushed, popped}
 use Rattle.status.proofs.PswLaws.{pushed-lt, popped-lt}
-use Rattle.kept.specs.Kept.{onlyFrom, keptPsw, keptIndex, keptHigh, keptLow}
-use Rattle.kept.proofs.KeptLaws.{psw-kept, psw-again, index-again, index-kept, index-none, high-again, low-again}
-use Rattle.kept.proofs.OnlyLaws.{set-only}
-use Rattle.lookup.specs.Lookup.{lookup, pageOf, nextReplacement, foundIndex}
-use Rattle.processor.specs.State.{atReset, fit}
+use Rattle.kept_bits.specs.Kept.{onlyFrom, keptPsw, keptIndex, keptHigh, keptLow}
+use Rattle.kept_bits.proofs.KeptLaws.{psw-kept, psw-again, index-again, index-kept, index-none, high-again, low-again}
+use Rattle.kept_bits.proofs.OnlyLaws.{Only, set-only}
+use Rattle.tlb.specs.Lookup.{lookup, pageOf, nextReplacement, foundIndex}
+use Rattle.processor.specs.State.{atReset, fit, withRegisters, withPc, withSpecials, withTlb}
 use Rattle.processor.specs.Exception.{entered, returned}
 use Rattle.processor.specs.Register.{put, written, jumped, specialWritten}
 use Rattle.processor.specs.Tlb.{entryWritten, indexedWritten, randomWritten, entryRead, searched}
 use Rattle.processor.specs.declared.Processor.{Processor}
-use Rattle.processor.proofs.FitLaws.{Fit}
+use Rattle.processor.proofs.FitLaws.{Fit, fits}
 
 -- one of two kept values is kept
-either : (kept : ℕ → ℕ) (t : Bool) (x y : ℕ) → kept x ≡ x → kept y ≡ y → kept (cond t x y) ≡ cond t x y
-either kept true x y hx hy = hx
-either kept false x y hx hy = hy
-
--- ---- the operations
+either : (kept : ℕ → ℕ) (t : Bool) {x y : ℕ} → kept x ≡ x → kept y ≡ y → kept (cond t x y) ≡ cond t x y
+either kept t = chosen (λ (v : ℕ). kept v ≡ v) t
 
 pub reset-fit : fit atReset ≡ true
 unfolding fit atReset onlyFrom keptPsw keptIndex keptHigh keptLow
 reset-fit = refl
 
+-- ---- a state with one part changed
+
+pub registers-fit : {p : Processor} → Fit p → {registers : List ℕ} → getD registers 0 0 ≡ 0 → Fit (withRegisters p registers)
+registers-fit f zeroed = fits zeroed (f .from) (f .upto) (f .psw) (f .index) (f .high) (f .low) (f .highs) (f .lows)
+
+pub pc-fit : {p : Processor} → Fit p → {pc : ℕ} → Fit (withPc p pc)
+pc-fit f = fits (f .zeroed) (f .from) (f .upto) (f .psw) (f .index) (f .high) (f .low) (f .highs) (f .lows)
+
+pub specials-fit : {p : Processor} → Fit p → {psw index high low bad : ℕ}
+    → keptPsw psw ≡ psw → keptIndex index ≡ index → keptHigh high ≡ high → keptLow low ≡ low
+    → Fit (withSpecials p psw index high low bad)
+specials-fit f psw index high low = fits (f .zeroed) (f .from) (f .upto) psw index high low (f .highs) (f .lows)
+
+pub tlb-fit : {p : Processor} → Fit p → {highs lows : List ℕ} {replacement : ℕ} → Only keptHigh highs → Only keptLow lows
+    → 4 ≤ replacement → replacement ≤ 31 → Fit (withTlb p highs lows replacement)
+tlb-fit f highs lows from upto = fits (f .zeroed) from upto (f .psw) (f .index) (f .high) (f .low) highs lows
+
+-- ---- the operations
+
 module _ (p : Processor) (f : Fit p) where
   pub entered-fit : (eid address : ℕ) → Fit (entered p eid address)
   unfolding entered
   entered-fit eid address =
-      record {
-        zeroed = getD-set-other (p .registers) 30 0 (p .pc) 0 (λ e. omega arith) ∙ f .zeroed;
-        from = f .from;
-        upto = f .upto;
-        psw = psw-kept (pushed (p .psw) eid) (pushed-lt (p .psw) eid);
-        index = f .index;
-        high = either keptHigh (both (leb 21 eid) (leb eid 23)) (keptHigh address) (p .entryhigh) (high-again address) (f .high);
-        low = f .low;
-        highs = f .highs;
-        lows = f .lows;
-      }
+      specials-fit (pc-fit (registers-fit f (getD-set-other (p .registers) 30 0 (p .pc) 0 (λ e. omega arith) ∙ f .zeroed)))
+      (psw-kept (pushed (p .psw) eid) (pushed-lt (p .psw) eid)) (f .index)
+      (either keptHigh (both (leb 21 eid) (leb eid 23)) (high-again address) (f .high)) (f .low)
 
   pub returned-fit : Fit (returned p)
   unfolding returned
-  returned-fit =
-      record {
-        zeroed = f .zeroed;
-        from = f .from;
-        upto = f .upto;
-        psw = psw-kept (popped (p .psw)) (popped-lt (p .psw));
-        index = f .index;
-        high = f .high;
-        low = f .low;
-        highs = f .highs;
-        lows = f .lows;
-      }
+  returned-fit = specials-fit (pc-fit f) (psw-kept (popped (p .psw)) (popped-lt (p .psw))) (f .index) (f .high) (f .low)
 
   -- register 0 stays 0
   put-zero : (n v : ℕ) → getD (put (p .registers) n v) 0 0 ≡ 0
   unfolding put
-  put-zero n v = go (eqb (n % 32) 0) refl
-    where
-      go : (t : Bool) → eqb (n % 32) 0 ≡ t → getD (cond t (p .registers) (set (p .registers) (n % 32) v)) 0 0 ≡ 0
-      go true e = f .zeroed
-      go false e = getD-set-other (p .registers) (n % 32) 0 v 0 (λ z. eqb-false (n % 32) 0 e (sym z)) ∙ f .zeroed
+  put-zero n v =
+      case (λ (l : List ℕ). getD l 0 0 ≡ 0) (eqb (n % 32) 0) (λ e. f .zeroed)
+      (λ e. getD-set-other (p .registers) (n % 32) 0 v 0 (λ z. eqb-false (n % 32) 0 e (sym z)) ∙ f .zeroed)
 
   pub written-fit : (n v next : ℕ) → Fit (written p n v next)
   unfolding written
-  written-fit n v next =
-      record {
-        zeroed = put-zero n v;
-        from = f .from;
-        upto = f .upto;
-        psw = f .psw;
-        index = f .index;
-        high = f .high;
-        low = f .low;
-        highs = f .highs;
-        lows = f .lows;
-      }
+  written-fit n v next = pc-fit (registers-fit f (put-zero n v))
 
   pub jumped-fit : (next : ℕ) → Fit (jumped p next)
   unfolding jumped
-  jumped-fit next =
-      record {
-        zeroed = f .zeroed;
-        from = f .from;
-        upto = f .upto;
-        psw = f .psw;
-        index = f .index;
-        high = f .high;
-        low = f .low;
-        highs = f .highs;
-        lows = f .lows;
-      }
+  jumped-fit next = pc-fit f
 
   pub special-fit : (z v : ℕ) → Fit (specialWritten p z v)
   unfolding specialWritten
   special-fit z v =
-      record {
-        zeroed = f .zeroed;
-        from = f .from;
-        upto = f .upto;
-        psw = either keptPsw (eqb z 0) (keptPsw v) (p .psw) (psw-again v) (f .psw);
-        index = either keptIndex (eqb z 1) (keptIndex v) (p .index) (index-again v) (f .index);
-        high = either keptHigh (eqb z 2) (keptHigh v) (p .entryhigh) (high-again v) (f .high);
-        low = either keptLow (eqb z 3) (keptLow v) (p .entrylow) (low-again v) (f .low);
-        highs = f .highs;
-        lows = f .lows;
-      }
+      specials-fit f (either keptPsw (eqb z 0) (psw-again v) (f .psw)) (either keptIndex (eqb z 1) (index-again v) (f .index))
+      (either keptHigh (eqb z 2) (high-again v) (f .high)) (either keptLow (eqb z 3) (low-again v) (f .low))
 
   entry-fit : (i r : ℕ) → 4 ≤ r → r ≤ 31 → Fit (entryWritten p i r)
   unfolding entryWritten
-  entry-fit i r h k =
-      record {
-        zeroed = f .zeroed;
-        from = h;
-        upto = k;
-        psw = f .psw;
-        index = f .index;
-        high = f .high;
-        low = f .low;
-        highs = set-only keptHigh (p .tlbhigh) (i % 32) (p .entryhigh) (f .high) (f .highs);
-        lows = set-only keptLow (p .tlblow) (i % 32) (p .entrylow) (f .low) (f .lows);
-      }
+  entry-fit i r =
+      tlb-fit f (set-only keptHigh (p .tlbhigh) (i % 32) (p .entryhigh) (f .high) (f .highs))
+      (set-only keptLow (p .tlblow) (i % 32) (p .entrylow) (f .low) (f .lows))
 
   pub indexed-fit : Fit (indexedWritten p)
   unfolding indexedWritten
@@ -150,18 +106,7 @@ module _ (p : Processor) (f : Fit p) where
 
   pub read-fit : Fit (entryRead p)
   unfolding entryRead
-  read-fit =
-      record {
-        zeroed = f .zeroed;
-        from = f .from;
-        upto = f .upto;
-        psw = f .psw;
-        index = f .index;
-        high = f .highs (p .index % 32) (omega arith);
-        low = f .lows (p .index % 32) (omega arith);
-        highs = f .highs;
-        lows = f .lows;
-      }
+  read-fit = specials-fit f (f .psw) (f .index) (f .highs (p .index % 32) (omega arith)) (f .lows (p .index % 32) (omega arith))
 
   found-kept : (i : ℕ) → keptIndex (foundIndex i) ≡ foundIndex i
   unfolding foundIndex
@@ -172,15 +117,4 @@ module _ (p : Processor) (f : Fit p) where
 
   pub searched-fit : Fit (searched p)
   unfolding searched
-  searched-fit =
-      record {
-        zeroed = f .zeroed;
-        from = f .from;
-        upto = f .upto;
-        psw = f .psw;
-        index = found-kept (lookup (p .tlbhigh) (pageOf (p .entryhigh)));
-        high = f .high;
-        low = f .low;
-        highs = f .highs;
-        lows = f .lows;
-      }
+  searched-fit = specials-fit f (f .psw) (found-kept (lookup (p .tlbhigh) (pageOf (p .entryhigh)))) (f .high) (f .low)

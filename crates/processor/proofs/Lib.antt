@@ -1,3 +1,3 @@
--- The laws of `processor`, in the order to read them.
+-- The laws of `processor`.
 pub mod FitLaws
 pub mod FitKept

@@ -1,9 +1,11 @@
--- The state at reset, and which states are fit (document 01, "Closed by us" and cause 6 of "Refused calls").
+-- The state at reset, a state with one part changed, and which states are fit (document 01, "Closed by us" and cause 6 of "Refused calls").
 use mathlib.Core.Bool.{Bool}
+use mathlib.Core.List.{List}
+use Prim.Native.Nat.{ℕ}
 use lib.Dec.{leb, eqb}
 use lib.ListN.{getD, replicate}
 use Rattle.words.specs.Logic.{both}
-use Rattle.kept.specs.Kept.{keptPsw, keptIndex, keptHigh, keptLow, only, onlyFrom}
+use Rattle.kept_bits.specs.Kept.{keptPsw, keptIndex, keptHigh, keptLow, only, onlyFrom}
 use Rattle.processor.specs.declared.Processor.{Processor}
 
 unfoldable pub atReset : Processor
@@ -20,6 +22,43 @@ atReset =
       tlblow = replicate 32 0;
       replacement = 4;
     }
+
+-- ---- a state with one part changed
+
+-- from its ten fields, in their order
+abbrev pub stateOf : List ℕ → ℕ → ℕ → ℕ → ℕ → ℕ → ℕ → List ℕ → List ℕ → ℕ → Processor
+stateOf registers pc psw index high low bad highs lows replacement =
+    record {
+      registers = registers;
+      pc = pc;
+      psw = psw;
+      index = index;
+      entryhigh = high;
+      entrylow = low;
+      badaddress = bad;
+      tlbhigh = highs;
+      tlblow = lows;
+      replacement = replacement;
+    }
+
+abbrev pub withRegisters : Processor → List ℕ → Processor
+withRegisters p registers =
+    stateOf registers (p .pc) (p .psw) (p .index) (p .entryhigh) (p .entrylow) (p .badaddress) (p .tlbhigh) (p .tlblow) (p .replacement)
+
+abbrev pub withPc : Processor → ℕ → Processor
+withPc p pc =
+    stateOf (p .registers) pc (p .psw) (p .index) (p .entryhigh) (p .entrylow) (p .badaddress) (p .tlbhigh) (p .tlblow) (p .replacement)
+
+-- PSW, TLB Index, Entry High, Entry Low and Bad Address
+abbrev pub withSpecials : Processor → ℕ → ℕ → ℕ → ℕ → ℕ → Processor
+withSpecials p psw index high low bad = stateOf (p .registers) (p .pc) psw index high low bad (p .tlbhigh) (p .tlblow) (p .replacement)
+
+-- the high words and the low words of the TLB, and the replacement index
+abbrev pub withTlb : Processor → List ℕ → List ℕ → ℕ → Processor
+withTlb p highs lows replacement =
+    stateOf (p .registers) (p .pc) (p .psw) (p .index) (p .entryhigh) (p .entrylow) (p .badaddress) highs lows replacement
+
+-- ---- which states are fit
 
 -- register 0 is 0, the replacement index is in 4..31, and no bit is set that is never kept
 unfoldable pub fit : Processor → Bool

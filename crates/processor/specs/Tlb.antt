@@ -1,24 +1,14 @@
 -- The translation lookaside buffer (manual, 2.9; 3.6.5 to 3.6.8; document 01, "Closed by us").
 use Prim.Native.Nat.{ℕ, _%_}
 use lib.ListN.{getD, set}
-use Rattle.lookup.specs.Lookup.{pageOf, lookup, nextReplacement, foundIndex}
+use Rattle.tlb.specs.Lookup.{pageOf, lookup, nextReplacement, foundIndex}
+use Rattle.processor.specs.State.{withSpecials, withTlb}
 use Rattle.processor.specs.declared.Processor.{Processor}
 
--- entry i, modulo 32, written from Entry High and Entry Low, and the replacement index after it
+-- TLB entry i, modulo 32, written from Entry High and Entry Low, and the replacement index after it
 unfoldable pub entryWritten : Processor → ℕ → ℕ → Processor
 entryWritten p i replacement =
-    record {
-      registers = p .registers;
-      pc = p .pc;
-      psw = p .psw;
-      index = p .index;
-      entryhigh = p .entryhigh;
-      entrylow = p .entrylow;
-      badaddress = p .badaddress;
-      tlbhigh = set (p .tlbhigh) (i % 32) (p .entryhigh);
-      tlblow = set (p .tlblow) (i % 32) (p .entrylow);
-      replacement = replacement;
-    }
+    withTlb p (set (p .tlbhigh) (i % 32) (p .entryhigh)) (set (p .tlblow) (i % 32) (p .entrylow)) replacement
 
 -- TBWI: by bits 4..0 of TLB Index
 unfoldable pub indexedWritten : Processor → Processor
@@ -28,26 +18,14 @@ indexedWritten p = entryWritten p (p .index) (p .replacement)
 unfoldable pub randomWritten : Processor → Processor
 randomWritten p = entryWritten p (p .replacement) (nextReplacement (p .replacement))
 
--- Entry High, Entry Low and TLB Index set
+-- TLB Index, Entry High and Entry Low set
 abbrev pub tlbRegisters : Processor → ℕ → ℕ → ℕ → Processor
-tlbRegisters p index high low =
-    record {
-      registers = p .registers;
-      pc = p .pc;
-      psw = p .psw;
-      index = index;
-      entryhigh = high;
-      entrylow = low;
-      badaddress = p .badaddress;
-      tlbhigh = p .tlbhigh;
-      tlblow = p .tlblow;
-      replacement = p .replacement;
-    }
+tlbRegisters p index high low = withSpecials p (p .psw) index high low (p .badaddress)
 
 -- TBRI
 unfoldable pub entryRead : Processor → Processor
 entryRead p = tlbRegisters p (p .index) (getD (p .tlbhigh) (p .index % 32) 0) (getD (p .tlblow) (p .index % 32) 0)
 
--- TBS: the index of the entry for Entry High's page, or 80000000
+-- TBS: the index of the TLB entry for Entry High's page, or 80000000
 unfoldable pub searched : Processor → Processor
 searched p = tlbRegisters p (foundIndex (lookup (p .tlbhigh) (pageOf (p .entryhigh)))) (p .entryhigh) (p .entrylow)

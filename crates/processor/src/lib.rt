@@ -5,12 +5,12 @@ ghost use Rattle.processor.specs.State.{atReset};
 
 mod exception;
 mod register;
-mod tlb;
+mod tlb_write;
 
 // A register file, or the high or low words of the TLB.
 pub type Words = [u32; 32];
 
-// The five items of the machine record. The special registers are psw to badaddress; entry i of the TLB is tlbhigh[i], tlblow[i].
+// The five items of the machine record. The special registers are psw to badaddress; TLB entry i is tlbhigh[i], tlblow[i].
 pub struct Processor {
     pub registers: Words,
     pub pc: u32,

@@ -54,11 +54,11 @@ impl Processor {
     pub fn write_special(mut self, number: u32, value: u32) -> Self
         ensures { λ r. ⌜ r ≡ specialWritten self number value ⌝ }
     {
-        self.psw = kept::psw_after(number, value, self.psw);
-        self.index = kept::index_after(number, value, self.index);
-        self.entryhigh = kept::high_after(number, value, self.entryhigh);
-        self.entrylow = kept::low_after(number, value, self.entrylow);
-        self.badaddress = kept::after(number, 4, value, self.badaddress);
+        self.psw = kept_bits::psw_after(number, value, self.psw);
+        self.index = kept_bits::index_after(number, value, self.index);
+        self.entryhigh = kept_bits::high_after(number, value, self.entryhigh);
+        self.entrylow = kept_bits::low_after(number, value, self.entrylow);
+        self.badaddress = kept_bits::after(number, 4, value, self.badaddress);
         self
     }
 }

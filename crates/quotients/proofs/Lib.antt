@@ -1,4 +1,5 @@
--- The laws of `quotients`, in the order to read them.
+-- The laws of `quotients`.
 pub mod IntegerDivision
 pub mod Examples
 pub mod Sizes
+pub mod Division

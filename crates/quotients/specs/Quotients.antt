@@ -1,11 +1,8 @@
 -- Quotients and remainders (manual, 3.3.9 to 3.3.16; document 01, "Closed by us"). The operands x and y are words, below 2 ^ 32.
 -- A 16-bit immediate is extended to the word y before: by sign for DIVI and REMI, by zeros for DIVUI and REMUI.
-use mathlib.Core.Bool.{cond}
-use Prim.Native.Nat.{ℕ, _/_, _%_, _^_}
-use lib.Dec.{leb}
+use Prim.Native.Nat.{ℕ, _/_, _%_}
 use lib.Signed.{quotZ, remZ}
 use Rattle.words.specs.Numbers.{signed, wordOf}
-use Rattle.sums.specs.Sums.{difference}
 
 -- DIV, DIVI (3.3.9, 3.3.10): rounded toward 0. The divisor 0 faults before this is asked
 unfoldable pub signedQuotient : ℕ → ℕ → ℕ
@@ -22,7 +19,3 @@ signedRemainder x y = wordOf (remZ (signed 32 x) (signed 32 y))
 -- REMU, REMUI (3.3.15, 3.3.16)
 unfoldable pub unsignedRemainder : ℕ → ℕ → ℕ
 unsignedRemainder x y = x % y
-
--- no instruction gives this: the number m, or its opposite where the signed reading of x is below 0. The code of DIV and REM uses it
-unfoldable pub withSign : ℕ → ℕ → ℕ
-withSign x m = cond (leb (2 ^ 31) x) (difference 0 m) m

@@ -3,15 +3,15 @@ use mathlib.Core.Path.{_≡_, refl, ap, sym, _∙_}
 use mathlib.Core.Bool.{Bool, true, false, cond}
 use mathlib.Core.List.{List}
 use Prim.Native.Nat.{ℕ}
-use native.Mathlib.Omega.{arith}
 use lib.Dec.{eqb}
 use lib.ListN.{length}
 use borrow.Author.Tests.{eqb-true, eq-eqb, ne-eqb}
 use Rattle.processor.specs.declared.Processor.{Processor}
 use Rattle.processor.specs.State.{atReset, fit}
 use Rattle.processor.proofs.FitKept.{reset-fit}
-use Rattle.recordlayout.specs.Record.{recordOf, kindsInPlace, processorOf}
-use Rattle.record.specs.Calls.{readRefusal, processorRead, writeRefusal, bufferAfter}
+use Rattle.record_layout.specs.Record.{recordOf, kindsInPlace, processorOf}
+use Rattle.record.specs.Calls.{recordTests, readRefusal, processorRead, writeRefusal, bufferAfter}
+use Rattle.refusals.proofs.FirstFailed.{all-pass}
 
 module _ (s : List ℕ) where
   -- what a reading with a refusal number hands back
@@ -38,13 +38,7 @@ module _ (s : List ℕ) where
   -- 0 comes only where nothing is to refuse
   pub accepted-means : readRefusal s ≡ 0 → (length s ≡ 414) × (kindsInPlace s ≡ true) × (fit (processorOf s) ≡ true)
   unfolding readRefusal
-  accepted-means e = let passed = go (eqb (length s) 414) (kindsInPlace s) (fit (processorOf s)) e in (eqb-true _ _ (passed .0), passed .1, passed .2)
-    where
-      go : (t u v : Bool) → _≡_ {A = ℕ} (cond t (cond u (cond v 0 6) 5) 4) 0 → (t ≡ true) × (u ≡ true) × (v ≡ true)
-      go true true true e = (refl, refl, refl)
-      go true true false e = absurd (omega arith)
-      go true false v e = absurd (omega arith)
-      go false u v e = absurd (omega arith)
+  accepted-means e = let passed = all-pass (recordTests s) refl e in (eqb-true _ _ (passed .0), passed .1 .0, passed .1 .1 .0)
 
   -- what a reading hands back is fit, the reset machine of a refused one too
   pub read-fit : fit (processorRead s) ≡ true

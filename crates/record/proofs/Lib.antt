@@ -1,4 +1,4 @@
--- The laws of `record`, and the two round trips, in the order to read them.
+-- The laws of `record`.
 pub mod Answers
 pub mod WrittenRead
 pub mod ReadWritten

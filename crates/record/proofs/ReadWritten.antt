@@ -7,10 +7,10 @@ use lib.ListN.{length, getD, take}
 use lib.Seq.{take-all}
 use Rattle.endian.specs.BigEndian.{readAt}
 use Rattle.arrays.specs.Numbers.{wordsAt}
-use Rattle.recordlayout.specs.Record.{recordOf, processorOf}
+use Rattle.record_layout.specs.Record.{recordOf, processorOf}
 use Rattle.record.specs.Calls.{readRefusal, processorRead, writeRefusal, bufferAfter}
-use Rattle.recordlayout.proofs.KindLaws.{Kinds, kinds-mean}
-use Rattle.recordlayout.proofs.Written.{bytesWritten, same-bytes}
+use Rattle.record_layout.proofs.KindLaws.{Kinds, kinds-mean}
+use Rattle.record_layout.proofs.Written.{bytesWritten, same-bytes}
 use Rattle.record.proofs.Answers.{accepted-means, read-accepted, read-fit, write-accepted}
 use Rattle.arrays.proofs.ReadLaws.{number-joins, words-join, pairs-join}
 

@@ -8,12 +8,12 @@ use lib.ListN.{length, getD, drop}
 use Rattle.processor.specs.declared.Processor.{Processor}
 use Rattle.processor.specs.State.{fit}
 use Rattle.arrays.specs.Numbers.{bytesOf, wordBytes, pairBytes, wordsAt}
-use Rattle.recordlayout.specs.Record.{recordOf, processorOf}
+use Rattle.record_layout.specs.Record.{recordOf, processorOf}
 use Rattle.record.specs.Calls.{readRefusal, processorRead, bufferAfter}
-use Rattle.recordlayout.proofs.KindLaws.{Kinds, means-kinds}
+use Rattle.record_layout.proofs.KindLaws.{Kinds, means-kinds}
 use Rattle.arrays.proofs.WriteLaws.{bytes-length, words-length, pairs-length}
-use Rattle.recordlayout.proofs.Written.{Arrays, specials, one-byte, record-length}
-use Rattle.recordlayout.proofs.Fields.{fields-read}
+use Rattle.record_layout.proofs.Written.{Arrays, specials, one-byte, record-length}
+use Rattle.record_layout.proofs.Fields.{fields-read}
 use Rattle.record.proofs.Answers.{read-accepted, write-accepted}
 use Rattle.arrays.proofs.ReadLaws.{past, number-read, byte-read, words-read, pairs-read}
 

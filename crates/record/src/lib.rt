@@ -4,15 +4,6 @@ ghost use mathlib.Core.Path.{_≡_};
 ghost use Rattle.processor.specs.State.{atReset};
 ghost use Rattle.record.specs.Calls.{readRefusal, processorRead, writeRefusal, bufferAfter};
 
-// The numbers that a call answers with.
-pub const ACCEPTED: u32 = 0;
-
-pub const WRONG_LENGTH: u32 = 4;
-
-pub const WRONG_KIND: u32 = 5;
-
-pub const UNFIT: u32 = 6;
-
 pub const LENGTH: usize = 414;
 
 pub struct Reading {
@@ -35,17 +26,17 @@ pub fn read(bytes: &[u8]) -> Reading
     ensures processor { λ r. ⌜ r .processor ≡ processorRead (now (bytes .entry)) ⌝ }
 {
     if bytes.len() != LENGTH {
-        return refused(WRONG_LENGTH);
+        return refused(refusals::RECORD_LENGTH);
     }
-    if !recordlayout::kinds_in_place(bytes) {
-        return refused(WRONG_KIND);
+    if !record_layout::kinds_in_place(bytes) {
+        return refused(refusals::KIND_BYTE);
     }
-    let p = recordlayout::get(bytes);
-    if !fitness::is_fit(p) {
-        return refused(UNFIT);
+    let p = record_layout::get(bytes);
+    if !machine::is_fit(p) {
+        return refused(refusals::UNFIT);
     }
     Reading {
-        refusal: ACCEPTED,
+        refusal: refusals::ACCEPTED,
         processor: p,
     }
 }
@@ -56,11 +47,11 @@ pub fn write(p: Processor, buffer: &mut [u8]) -> u32
     ensures buffer { λ r. ⌜ now (buffer .exit) ≡ bufferAfter p (now (buffer .entry)) ⌝ }
 {
     if buffer.len() != LENGTH {
-        return WRONG_LENGTH;
+        return refusals::RECORD_LENGTH;
     }
-    if !fitness::is_fit(p) {
-        return UNFIT;
+    if !machine::is_fit(p) {
+        return refusals::UNFIT;
     }
-    recordwrite::put(p, buffer);
-    ACCEPTED
+    record_layout::put(p, buffer);
+    refusals::ACCEPTED
 }

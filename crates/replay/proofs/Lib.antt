@@ -1,3 +1,4 @@
--- The laws of `replay`, in the order to read them.
+-- The laws of `replay`.
+pub mod StepLaws
 pub mod CommandLaws
 pub mod Mismatches

@@ -4,22 +4,22 @@ use mathlib.Core.Bool.{Bool, true, false, cond}
 use mathlib.Core.List.{List}
 use Prim.Native.Nat.{ℕ, zero, suc, _+_, _/_, _%_, _<_}
 use native.Mathlib.Omega.{arith}
-use lib.Dec.{eqb}
+use lib.Dec.{ltb, eqb}
 use lib.ListN.{length}
-use borrow.Author.Tests.{eqb-true, eq-eqb}
+use borrow.Author.Tests.{eqb-true, eq-eqb, ltb-false}
 use Rattle.words.specs.Logic.{both}
-use Rattle.words.proofs.Cases.{chosen, below-or-not}
+use Rattle.words.proofs.Cases.{chosen, case}
+use Rattle.words.proofs.Conjunction.{both-true, true-both}
 use Rattle.processor.specs.State.{fit}
-use Rattle.state.specs.Machine.{Machine}
-use Rattle.recordlayout.specs.Record.{recordOf}
-use Rattle.tally.specs.declared.Counts.{Counts}
-use Rattle.slices.specs.Same.{same}
-use Rattle.tally.specs.Tally.{raised, caseBegun, stepMade, endRead, failed, judged}
+use Rattle.machine.specs.Machine.{Machine}
+use Rattle.record_layout.specs.Record.{recordOf}
+use Rattle.replay.specs.declared.Counts.{Counts}
+use Rattle.bytes.specs.Same.{same}
+use Rattle.replay.specs.Tally.{raised, caseBegun, stepMade, endRead, failed, judged}
 use Rattle.expected.specs.Expected.{Expected, recordAgrees, memoryAgrees, agrees}
-use Rattle.replaystep.specs.Agreement.{stepAgrees}
+use Rattle.replay.specs.Agreement.{stepAgrees}
 use Rattle.replay.specs.Replay.{Replay, good, done, afterJudging, commanded, goodAt, commandedAt, replayedFrom, allGoodFrom, replayed, finished}
-use Rattle.slices.proofs.SameLaws.{both-hold, same-equal, same-self}
-use Rattle.tally.proofs.TallyLaws.{raised-more, raised-most}
+use Rattle.bytes.proofs.SameLaws.{same-equal, numbers-first, lists-first, same-self}
 
 -- ---- what agreement says
 
@@ -29,12 +29,12 @@ module _ (x : Expected) (wanted : ℕ) (m : Machine) (eid : ℕ) where
       × (m .memory .ram ≡ x .memory .ram) × (m .memory .rom ≡ x .memory .rom) × (m .memory .belt ≡ x .memory .belt)
   unfolding agrees recordAgrees memoryAgrees
   agrees-says e =
-      let (number, rest) = both-hold (eqb eid wanted) _ e in
-      let (bytes, memory) = both-hold (both (fit (m .processor)) (same (recordOf (m .processor)) (x .bytes))) _ rest in
-      let (isFit, written) = both-hold (fit (m .processor)) _ bytes in
-      let (ram, others) = both-hold (same (m .memory .ram) (x .memory .ram)) _ memory in
-      let (rom, belt) = both-hold (same (m .memory .rom) (x .memory .rom)) _ others in
-      (eqb-true eid wanted number, isFit, same-equal _ _ written, same-equal _ _ ram, same-equal _ _ rom, same-equal _ _ belt)
+      let (number, rest) = numbers-first eid wanted _ e in
+      let (bytes, memory) = both-true (both (fit (m .processor)) (same (recordOf (m .processor)) (x .bytes))) _ rest in
+      let (isFit, written) = both-true (fit (m .processor)) _ bytes in
+      let (ram, others) = lists-first (m .memory .ram) (x .memory .ram) _ memory in
+      let (rom, belt) = lists-first (m .memory .rom) (x .memory .rom) _ others in
+      (number, isFit, same-equal _ _ written, ram, rom, same-equal _ _ belt)
 
   pub says-agrees : eid ≡ wanted → fit (m .processor) ≡ true → recordOf (m .processor) ≡ x .bytes
       → m .memory .ram ≡ x .memory .ram → m .memory .rom ≡ x .memory .rom → m .memory .belt ≡ x .memory .belt
@@ -45,14 +45,10 @@ module _ (x : Expected) (wanted : ℕ) (m : Machine) (eid : ℕ) where
 
 -- ---- one command
 
-module _ (step fine : Bool) (c : Counts) where
-  pub judged-mismatches : judged step fine c .mismatches ≡ cond fine (c .mismatches) (raised (c .mismatches))
-  unfolding judged failed
-  judged-mismatches = go fine
-    where
-      go : (t : Bool) → judged step t c .mismatches ≡ cond t (c .mismatches) (raised (c .mismatches))
-      go true = refl
-      go false = refl
+pub judged-mismatches : (step fine : Bool) (c : Counts) → judged step fine c .mismatches ≡ cond fine (c .mismatches) (raised (c .mismatches))
+unfolding judged failed
+judged-mismatches step true c = refl
+judged-mismatches step false c = refl
 
 module _ (r : Replay) (kind a b : ℕ) where
   Kept : Replay → Type 0
@@ -87,14 +83,13 @@ step-mismatches r a b e =
 -- ---- no mismatch
 
 raised-positive : (n : ℕ) → 0 < raised n
-raised-positive n = below-or-not n 4294967295 (λ h. rw (sym (raised-more n h)) (omega arith)) (λ h. rw (sym (raised-most n h)) (omega arith))
+unfolding raised
+raised-positive n =
+    case (λ (k : ℕ). 0 < k) (ltb n 4294967295) (λ e. omega arith) (λ e. omega (arith, ltb-false n 4294967295 e))
 
 none-left : (t : Bool) (n : ℕ) → cond t n (raised n) ≡ 0 → (t ≡ true) × (n ≡ 0)
 none-left true n e = (refl, e)
 none-left false n e = absurd (omega (arith, raised-positive n, e))
-
-both-true : {t u : Bool} → t ≡ true → u ≡ true → both t u ≡ true
-both-true {t} {u} e f = rw (e, f)
 
 -- after the commands there is none: so there was none before them, and each was good
 pub none-from : (n : ℕ) (s : List ℕ) (at : ℕ) (r : Replay) → replayedFrom n s at r .counts .mismatches ≡ 0
@@ -104,7 +99,7 @@ none-from zero s at r e = (refl, e)
 none-from (suc n) s at r e =
     let (rest, after) = none-from n s (at + 8) (commandedAt s at r) e in
     let (here, before) = none-left (goodAt s at r) (r .counts .mismatches) (sym (command-mismatches r _ _ _) ∙ after) in
-    (both-true here rest, before)
+    (true-both _ _ here rest, before)
 
 -- where each is good, the count stays
 pub good-from : (n : ℕ) (s : List ℕ) (at : ℕ) (r : Replay) → allGoodFrom n s at r ≡ true
@@ -112,7 +107,7 @@ pub good-from : (n : ℕ) (s : List ℕ) (at : ℕ) (r : Replay) → allGoodFrom
 unfolding replayedFrom allGoodFrom goodAt commandedAt
 good-from zero s at r e = refl
 good-from (suc n) s at r e =
-    let (here, rest) = both-hold (goodAt s at r) _ e in
+    let (here, rest) = both-true (goodAt s at r) _ e in
     good-from n s (at + 8) (commandedAt s at r) rest
     ∙ command-mismatches r _ _ _
     ∙ ap (λ (t : Bool). cond t (r .counts .mismatches) (raised (r .counts .mismatches))) here

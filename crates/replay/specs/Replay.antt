@@ -4,16 +4,19 @@ use mathlib.Core.List.{List}
 use Prim.Native.Nat.{ℕ, zero, suc, _+_, _/_, _%_, _^_}
 use lib.Dec.{eqb}
 use lib.ListN.{length}
+use denote.Ref.{now}
 use Rattle.words.specs.Logic.{both}
 use Rattle.endian.specs.BigEndian.{readAt}
-use Rattle.state.specs.Machine.{Machine}
-use Rattle.machine.specs.Step.{stepOf, stepEid}
+use Rattle.memory.specs.Lent.{Lent}
+use Rattle.processor.specs.declared.Processor.{Processor}
+use Rattle.machine.specs.Machine.{Machine, machine, before}
 use Rattle.record.specs.Calls.{readRefusal}
-use Rattle.tally.specs.Tally.{caseBegun, stepMade, endRead, judged}
-use Rattle.expected.specs.Expected.{Expected, expected, clear, patchFits, patched, startedIn}
-use Rattle.replaystep.specs.Agreement.{stepAgrees}
-use Rattle.tally.specs.declared.Counts.{Counts}
-use Rattle.replaystep.specs.Tallies.{Tallies, opcodeAt, tallied}
+use Rattle.replay.specs.Tally.{caseBegun, stepMade, endRead, judged}
+use Rattle.expected.specs.Expected.{Expected, expectedLent, expectedLeft, clear, patchFits, patched, startedIn}
+use Rattle.replay.specs.Agreement.{machineAfter, stepAgrees}
+use Rattle.replay.specs.declared.Counts.{Counts}
+use Rattle.replay.specs.declared.Progress.{Progress}
+use Rattle.replay.specs.Tallies.{Tallies, talliesLent, talliesLeft, stepTallied}
 
 -- ---- the state of a replay
 
@@ -25,6 +28,23 @@ pub record Replay : Type 0 where
 
 abbrev pub replay : Expected → Machine → Counts → Tallies → Replay
 replay x m c t = record { expected = x; model = m; counts = c; tallies = t }
+
+-- the processor that is kept, with other counts
+abbrev pub withCounts : Progress → Counts → Progress
+withCounts p c = record { processor = p .processor; counts = c }
+
+-- the model's machine as a call left it, where the call may write the ROM
+abbrev pub machineLeft : Processor → Lent → Lent → Lent → Machine
+machineLeft p ram rom belt = machine p (now (ram .exit)) (now (rom .exit)) (now (belt .exit))
+
+-- the replay in slices lent to a call, at its entry and at its exit; the slices of the expected machine are named by an x
+abbrev pub replayLent : Progress → Lent → Lent → Lent → Lent → Lent → Lent → Lent → Lent → Lent → Replay
+replayLent p xrecord xram xrom xbelt ram rom belt opcodes exceptions =
+    replay (expectedLent xrecord xram xrom xbelt) (before (p .processor) ram rom belt) (p .counts) (talliesLent opcodes exceptions)
+
+abbrev pub replayLeft : Progress → Lent → Lent → Lent → Lent → Lent → Lent → Lent → Lent → Lent → Replay
+replayLeft p xrecord xram xrom xbelt ram rom belt opcodes exceptions =
+    replay (expectedLeft xrecord xram xrom xbelt) (machineLeft (p .processor) ram rom belt) (p .counts) (talliesLeft opcodes exceptions)
 
 -- ---- a command
 
@@ -57,7 +77,7 @@ done r kind a b =
     (cond (eqb kind clearKind) (replay (clear (r .expected)) (r .model) (caseBegun (r .counts)) (r .tallies))
     (cond (eqb kind startKind) (replay (r .expected) (startedIn (r .model .memory) (r .expected)) (r .counts) (r .tallies))
     (cond (eqb kind stepKind)
-    (replay (r .expected) (stepOf (r .model) a) (stepMade (r .counts)) (tallied (r .tallies) (opcodeAt (r .model)) (stepEid (r .model) a)))
+    (replay (r .expected) (machineAfter (r .model) a) (stepMade (r .counts)) (stepTallied (r .tallies) (r .model) a))
     (cond (eqb kind endKind) (replay (r .expected) (r .model) (endRead (r .counts)) (r .tallies))
     (replay (patched (r .expected) kind a b) (r .model) (r .counts) (r .tallies))))))
 

@@ -1,4 +1,3 @@
--- The laws of `runs`, in the order to read them.
+-- The laws of `runs`.
 pub mod Refused
 pub mod RunLaws
-pub mod Causes

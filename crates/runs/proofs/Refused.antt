@@ -1,36 +1,30 @@
--- A run by its refusal number.
+-- A run by its refusal number; a refusal comes only for its cause.
 use mathlib.Core.Path.{_≡_, refl, sym, _∙_}
-use mathlib.Core.Bool.{Bool, true, false}
+use mathlib.Core.Bool.{cond}
 use Prim.Native.Nat.{ℕ, _≤_}
-use native.Mathlib.Omega.{arith}
-use lib.Dec.{leb}
-use lib.ListN.{length}
+use lib.Dec.{eqb}
 use borrow.Author.Tests.{leb-true, eq-eqb, ne-eqb}
-use Rattle.processor.specs.State.{fit}
-use Rattle.state.specs.Machine.{Machine}
-use Rattle.refusal.specs.Refusal.{check, ramAccepted, romAccepted, beltAccepted, lengthsChecked, memoryChecked, stepsChecked, runRefusal}
-use Rattle.steps.specs.Run.{outcome, runFrom, runOf}
+use Rattle.machine.specs.Machine.{Machine}
+use Rattle.refusals.specs.Refusal.{firstFailed, runTests, runRefusal}
+use Rattle.refusals.proofs.FirstFailed.{Cause, cause, all-pass}
+use Rattle.run_loop.specs.Run.{Request, outcome, runFrom, runOf, refused}
+use Rattle.run_loop.proofs.Loop.{run-is}
 
-module _ (kind : Bool) (m : Machine) (wanted lines r : ℕ)
-    (e : r ≡ memoryChecked (m .memory) (check (fit (m .processor)) 6 (stepsChecked wanted))) where
-  pub run-refused : (r ≡ 0 → ⊥) → outcome m r 0 32 ≡ runOf kind m wanted lines
-  unfolding runOf runRefusal
-  run-refused h = rw (← e) (simp (ne-eqb r 0 h))
+-- the number is that of a test that fails, and all before it pass; or it is 0, and all pass
+pub refusal-cause : (m : Machine) (wanted : ℕ) → Cause (runTests m wanted) (runRefusal m wanted)
+unfolding runRefusal
+refusal-cause m wanted = cause (runTests m wanted)
 
-  pub run-accepted : r ≡ 0 → runFrom kind wanted 0 m lines ≡ runOf kind m wanted lines
-  unfolding runOf runRefusal
-  run-accepted h = rw (← e) (simp (eq-eqb r 0 h))
+module _ (q : Request) (m : Machine) {r : ℕ} (e : r ≡ firstFailed (runTests m (q .wanted))) where
+  by-number : runOf q m ≡ cond (eqb r 0) (runFrom q (q .wanted) 0 m) (refused m r)
+  unfolding runRefusal
+  by-number = rw e (run-is q m)
 
-  within : (t u v f s : Bool) → check t 1 (check u 2 (check v 3 (check f 6 (check s 7 0)))) ≡ 0 → s ≡ true
-  within true true true true true e = refl
-  within true true true true false e = absurd (omega arith)
-  within true true true false s e = absurd (omega arith)
-  within true true false f s e = absurd (omega arith)
-  within true false v f s e = absurd (omega arith)
-  within false u v f s e = absurd (omega arith)
+  pub run-refused : (r ≡ 0 → ⊥) → outcome m r 0 32 ≡ runOf q m
+  run-refused h = sym (by-number ∙ simp (ne-eqb r 0 h))
 
-  pub steps-within : r ≡ 0 → wanted ≤ 1000000
-  unfolding lengthsChecked stepsChecked
-  steps-within h =
-      leb-true wanted 1000000 (within (ramAccepted (length (m .memory .ram))) (romAccepted (length (m .memory .rom)))
-      (beltAccepted (length (m .memory .belt))) (fit (m .processor)) (leb wanted 1000000) (sym e ∙ h))
+  pub run-accepted : r ≡ 0 → runFrom q (q .wanted) 0 m ≡ runOf q m
+  run-accepted h = sym (by-number ∙ simp (eq-eqb r 0 h))
+
+  pub steps-within : r ≡ 0 → q .wanted ≤ 1000000
+  steps-within h = leb-true (q .wanted) 1000000 (all-pass (runTests m (q .wanted)) refl (sym e ∙ h) .1 .1 .1 .1 .0)

@@ -1,9 +1,9 @@
 // The two kinds of run (document 01, "Runs and views").
 use processor::Processor;
-use steps::Ran;
+use run_loop::Ran;
 ghost use mathlib.Core.Path.{_≡_};
-ghost use Rattle.state.specs.Machine.{machine};
-ghost use Rattle.steps.specs.Run.{plain, toException, outcome, runOf};
+ghost use Rattle.machine.specs.Machine.{before, after};
+ghost use Rattle.run_loop.specs.Run.{plain, toException, request, outcome, runOf};
 
 // A run of either kind, refused or made.
 fn checked(
@@ -15,10 +15,11 @@ fn checked(
     lines: u16,
     kind: bool,
 ) -> Ran
-    ensures { λ r. ⌜ outcome (machine (r .processor) (now (ram .exit)) (now (rom .entry)) (now (belt .exit))) (r .refusal) (r .steps) (r .eid) ≡ runOf kind (machine p (now (ram .entry)) (now (rom .entry)) (now (belt .entry))) wanted lines ⌝ }
+    ensures { λ r. ⌜ outcome (after (r .processor) ram rom belt) (r .refusal) (r .steps) (r .eid)
+        ≡ runOf (request kind wanted lines) (before p ram rom belt) ⌝ }
 {
-    let number = refusal::of_run(p, ram.len(), rom.len(), belt.len(), wanted);
-    if number != 0 {
+    let number = refusals::of_run(p, ram.len(), rom.len(), belt.len(), wanted);
+    if number != refusals::ACCEPTED {
         return Ran {
             processor: p,
             refusal: number,
@@ -26,7 +27,7 @@ fn checked(
             eid: Processor::NO_EXCEPTION,
         };
     }
-    steps::advance(p, ram, rom, belt, wanted as u32, lines as u32, kind)
+    run_loop::advance(p, ram, rom, belt, wanted as u32, lines as u32, kind)
 }
 
 // Makes exactly the wanted steps.
@@ -38,7 +39,8 @@ pub fn run(
     wanted: u64,
     lines: u16,
 ) -> Ran
-    ensures { λ r. ⌜ outcome (machine (r .processor) (now (ram .exit)) (now (rom .entry)) (now (belt .exit))) (r .refusal) (r .steps) (r .eid) ≡ runOf plain (machine p (now (ram .entry)) (now (rom .entry)) (now (belt .entry))) wanted lines ⌝ }
+    ensures { λ r. ⌜ outcome (after (r .processor) ram rom belt) (r .refusal) (r .steps) (r .eid)
+        ≡ runOf (request plain wanted lines) (before p ram rom belt) ⌝ }
 {
     checked(p, ram, rom, belt, wanted, lines, false)
 }
@@ -52,7 +54,8 @@ pub fn run_to_exception(
     wanted: u64,
     lines: u16,
 ) -> Ran
-    ensures { λ r. ⌜ outcome (machine (r .processor) (now (ram .exit)) (now (rom .entry)) (now (belt .exit))) (r .refusal) (r .steps) (r .eid) ≡ runOf toException (machine p (now (ram .entry)) (now (rom .entry)) (now (belt .entry))) wanted lines ⌝ }
+    ensures { λ r. ⌜ outcome (after (r .processor) ram rom belt) (r .refusal) (r .steps) (r .eid)
+        ≡ runOf (request toException wanted lines) (before p ram rom belt) ⌝ }
 {
     checked(p, ram, rom, belt, wanted, lines, true)
 }

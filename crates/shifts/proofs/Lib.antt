@@ -1,4 +1,4 @@
--- The laws of `shifts`, in the order to read them.
+-- The laws of `shifts`.
 pub mod ShiftLaws
 pub mod ShiftBits
 pub mod Examples

@@ -5,7 +5,7 @@ use native.Mathlib.Nat.{add-comm, mul-assoc, mul-mod-left, div-le-self, div-eq-o
 use native.Mathlib.Omega.{arith}
 use lib.Pow.{pow-add, pow-mono, shr-shr, shl-shr, field, mod-mod-pow}
 use Rattle.words.specs.Numbers.{bit}
-use Rattle.words.proofs.Cases.{below-or-not}
+use Rattle.words.proofs.Cases.{below-or-not, bit-lt}
 use Rattle.bitwise.proofs.BitLaws.{complement-bit}
 use Rattle.shifts.specs.Shifts.{shiftLeft, shiftRight, shiftArithmetic}
 use Rattle.shifts.proofs.ShiftLaws.{arithmetic-low, arithmetic-high}
@@ -18,10 +18,6 @@ truncated-bit i n h =
     ap (λ (k : ℕ). n % 2 ^ k / 2 ^ i % 2) (sym sizes)
     ∙ ap (λ (m : ℕ). m % 2) (field n (31 - i + 1) i)
     ∙ mod-mod-pow (n / 2 ^ i) (31 - i) 1
-
-bit-lt : (i n : ℕ) → bit i n < 2
-unfolding bit
-bit-lt i n = omega arith
 
 -- to the left: bit i - s, and 0 below s
 left-bit : (i s x : ℕ) → s ≤ i → bit i (x * 2 ^ s) ≡ bit (i - s) x

@@ -1,4 +1,4 @@
--- The laws of `sums`, in the order to read them.
+-- The laws of `sums`.
 pub mod Differences
 pub mod Product
 pub mod Examples

@@ -3,11 +3,10 @@ use mathlib.Core.Path.{_≡_, refl, ap, sym, _∙_}
 use Prim.Native.Nat.{ℕ, zero, suc, _+_, _*_, _-_, _/_, _%_, _^_, _≤_, _<_}
 use native.Mathlib.Nat.{mul-comm, mul-mod-left, mul-mod-right, mul-le-mul, lt-of-le-of-lt, le-pred-of-lt, mod-eq-of-lt, add-mul, mul-add}
 use native.Mathlib.Omega.{arith}
-use lib.IntN.{ℤ, pos, negsuc, negℤ}
+use lib.IntN.{ℤ, pos, negsuc, negℤ, _*ℤ_}
 use Rattle.words.specs.Numbers.{truncate, signed, wordOf}
 use Rattle.sums.specs.Sums.{signedProduct, unsignedProduct}
-use Rattle.words.proofs.Cases.{below-or-not}
-use Rattle.words.proofs.Integers.{signed-low, signed-high, word-lt}
+use Rattle.words.proofs.Integers.{by-signs, word-lt}
 
 -- an integer below 0 and its opposite make 0 modulo 2 ^ 32
 opposite : (q : ℕ) → (wordOf (negℤ (pos q)) + q) % 2 ^ 32 ≡ 0
@@ -35,16 +34,10 @@ unfolding signedProduct unsignedProduct truncate wordOf
 products-agree x y hx hy =
     let a : ℕ = suc (4294967295 - x) in
     let b : ℕ = suc (4294967295 - y) in
-    below-or-not x (2 ^ 31)
-    (λ lx. below-or-not y (2 ^ 31)
-    (λ ly. rw (signed-low x lx, signed-low y ly))
-    (λ ly. rw (signed-low x lx, signed-high y ly hy)
-    (sym (kept (negℤ (pos (x * b)))) ∙ unique _ (x * b) (x * y) (opposite (x * b)) (right x y b (omega arith)))))
-    (λ lx. below-or-not y (2 ^ 31)
-    (λ ly. rw (signed-high x lx hx, signed-low y ly)
-    (sym (kept (negℤ (pos (a * y)))) ∙ unique _ (a * y) (x * y) (opposite (a * y)) (left x a y (omega arith))))
-    (λ ly. rw (signed-high x lx hx, signed-high y ly hy)
-    (unique (a * b) (a * y) (x * y) (right a b y (omega arith)) (left x a y (omega arith)))))
+    by-signs (λ u v. wordOf (u *ℤ v) ≡ x * y % 2 ^ 32) x y hx hy (λ lx ly. refl)
+    (λ lx ly. sym (kept (negℤ (pos (x * b)))) ∙ unique _ (x * b) (x * y) (opposite (x * b)) (right x y b (omega arith)))
+    (λ lx ly. sym (kept (negℤ (pos (a * y)))) ∙ unique _ (a * y) (x * y) (opposite (a * y)) (left x a y (omega arith)))
+    (λ lx ly. unique (a * b) (a * y) (x * y) (right a b y (omega arith)) (left x a y (omega arith)))
 
 -- the whole product fits 64 bits
 pub product-fits : (x y : ℕ) → x < 2 ^ 32 → y < 2 ^ 32 → x * y < 2 ^ 64

@@ -1,2 +1,1 @@
 -- The laws of `system`.
-pub mod Arms

@@ -1,2 +1,3 @@
 -- The definitions of `system`.
 pub mod System
+pub mod Code

@@ -1,12 +1,11 @@
 -- The system instructions (manual, 3.6), a clause for each, and their opcodes 2E, 2F and 38 to 3D. RFX, MVFS, MVTS and the TLB instructions
--- touch more of the processor than the look reads: they are named by their opcodes, and the step does them.
+-- touch more of the processor than the look reads: the look names them, and the step does them.
 use mathlib.Core.Bool.{cond}
 use mathlib.Core.List.{List, [], _∷_}
 use Prim.Native.Nat.{ℕ, _%_, _^_}
 use Rattle.status.specs.Psw.{userMode}
 use Rattle.instructions.specs.Operands.{fieldY, fault}
-use Rattle.instructions.specs.declared.Action.{Action}
-use Rattle.instructions.specs.declared.Action.the-variants.{System}
+use Rattle.instructions.specs.Action.{Action, System, Rfx, Mvfs, Mvts, Tbs, Tbwr, Tbri, Tbwi}
 
 -- in User Mode a privileged instruction faults (18)
 unfoldable pub privileged : ℕ → Action → Action
@@ -25,28 +24,25 @@ abbrev pub TRAP : SystemMeaning
 TRAP psw y word = fault 20
 
 abbrev pub RFX : SystemMeaning
-RFX psw y word = privileged psw (System 0x2F 0 0)
+RFX psw y word = privileged psw (System Rfx)
 
 abbrev pub MVFS : SystemMeaning
-MVFS psw y word = privileged psw (System 0x38 (numberZ word) (fieldY word))
+MVFS psw y word = privileged psw (System (Mvfs (numberZ word) (fieldY word)))
 
 abbrev pub MVTS : SystemMeaning
-MVTS psw y word = privileged psw (System 0x39 (numberZ word) y)
+MVTS psw y word = privileged psw (System (Mvts (numberZ word) y))
 
 abbrev pub TBS : SystemMeaning
-TBS psw y word = privileged psw (System 0x3A 0 0)
+TBS psw y word = privileged psw (System Tbs)
 
 abbrev pub TBWR : SystemMeaning
-TBWR psw y word = privileged psw (System 0x3B 0 0)
+TBWR psw y word = privileged psw (System Tbwr)
 
 abbrev pub TBRI : SystemMeaning
-TBRI psw y word = privileged psw (System 0x3C 0 0)
+TBRI psw y word = privileged psw (System Tbri)
 
 abbrev pub TBWI : SystemMeaning
-TBWI psw y word = privileged psw (System 0x3D 0 0)
-
-abbrev pub illegalSystem : SystemMeaning
-illegalSystem psw y word = fault 17
+TBWI psw y word = privileged psw (System Tbwi)
 
 -- opcodes 2E and 2F
 unfoldable pub traps : List SystemMeaning

@@ -6,7 +6,8 @@ use lib.ListN.{getD, List·getD-eq-default}
 use Rattle.words.proofs.Cases.{below-or-not}
 use Rattle.words.specs.Numbers.{zeroExtend}
 use Rattle.instructions.specs.Operands.{Operands, Surroundings, Meaning, simple, illegal}
-use Rattle.transfer.specs.Transfer.{extensions, transfers}
+use Rattle.transfer.specs.Transfer.{transfers}
+use Rattle.transfer.specs.Code.{extensions}
 use Rattle.instructions.proofs.Arms.{arm, Nots, beyond}
 
 pub extension-last : (kind v : ℕ) → Nots kind 0 4 → zeroExtend 8 v ≡ getD extensions kind (zeroExtend 8) v

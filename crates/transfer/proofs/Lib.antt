@@ -1,3 +1,3 @@
--- The laws of `transfer`, in the order to read them.
+-- The laws of `transfer`.
 pub mod Arms
 pub mod Loads

@@ -1,10 +1,10 @@
 -- A load at the address that the code computed.
 use mathlib.Core.Path.{_≡_, ap, _∙_}
 use Prim.Native.Nat.{ℕ}
-use Rattle.reads.specs.Reads.{readFrom}
-use Rattle.reads.specs.declared.Read.{Read}
+use Rattle.access.specs.Reads.{readFrom}
+use Rattle.access.specs.declared.Read.{Read}
 use Rattle.instructions.specs.Operands.{Surroundings}
-use Rattle.instructions.specs.declared.Action.{Action}
+use Rattle.instructions.specs.Action.{Action}
 use Rattle.transfer.specs.Transfer.{landed}
 
 pub lands : (extend : ℕ → ℕ) (number next width : ℕ) (s : Surroundings) (a b : ℕ) (r : Read) {action : Action}

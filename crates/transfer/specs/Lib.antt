@@ -1,2 +1,3 @@
--- The definitions of `transfer`.
+-- The definitions of `transfer`, in the order to read them.
 pub mod Transfer
+pub mod Code

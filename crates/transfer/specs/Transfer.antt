@@ -4,12 +4,11 @@ use Prim.Native.Nat.{ℕ}
 use Rattle.words.specs.Numbers.{zeroExtend, signExtend}
 use Rattle.sums.specs.Sums.{sum}
 use Rattle.instructions.specs.Operands.{Operands, Meaning, immediateS, fieldY}
-use Rattle.instructions.specs.declared.Action.{Action}
-use Rattle.instructions.specs.declared.Action.the-variants.{Write, Exception}
-use Rattle.reads.specs.Reads.{readFrom}
-use Rattle.reads.specs.declared.Read.{Read}
-use Rattle.reads.specs.declared.Read.the-variants.{Value, Fault}
-use Rattle.writes.specs.Writes.{storeTo}
+use Rattle.instructions.specs.Action.{Action, Write, Exception}
+use Rattle.access.specs.Reads.{readFrom}
+use Rattle.access.specs.declared.Read.{Read}
+use Rattle.access.specs.declared.Read.the-variants.{Value, Fault}
+use Rattle.access.specs.Writes.{storeTo}
 
 -- ---- loading
 
@@ -20,14 +19,10 @@ addressOf o = sum (o .x) (immediateS o)
 -- a value extended into a register, or the fault
 abbrev pub landed : (ℕ → ℕ) → ℕ → ℕ → ℕ → Read → Action
 landed extend number address next (Value v) = Write number (extend v) next
-landed extend number address next (Fault eid) = Exception eid address 0
+landed extend number address next (Fault eid) = Exception eid address
 
 unfoldable pub load : ℕ → (ℕ → ℕ) → Meaning
 load width extend s o = landed extend (fieldY (o .word)) (addressOf o) (o .next) (readFrom width s (addressOf o))
-
--- the extensions of LDW, LDH, LDHU, LDB and LDBU in this order, as the code chooses them
-unfoldable pub extensions : List (ℕ → ℕ)
-extensions = (λ v. v) ∷ signExtend 16 ∷ zeroExtend 16 ∷ signExtend 8 ∷ zeroExtend 8 ∷ []
 
 -- 3.5.1 to 3.5.5
 abbrev pub LDW : Meaning

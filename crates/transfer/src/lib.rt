@@ -1,16 +1,17 @@
 // Loads and stores (manual, 3.5).
-use instructions::Action;
+use access::Read;
+use instructions::Coded;
 use processor::Processor;
 use processor::Words;
-use reads::Read;
 use translation::Width;
 use words::extension;
 ghost use mathlib.Core.Path.{_≡_};
 ghost use lib.ListN.{getD};
-ghost use Rattle.memory.specs.Map.{memory};
-ghost use Rattle.instructions.specs.Operands.{operands, surroundings, simple, illegal};
+ghost use Rattle.instructions.specs.Operands.{operands, simple, illegal, around};
 ghost use Rattle.words.specs.Numbers.{zeroExtend};
-ghost use Rattle.transfer.specs.Transfer.{extensions, landed, transfers};
+ghost use Rattle.transfer.specs.Transfer.{landed, transfers};
+ghost use Rattle.transfer.specs.Code.{extensions};
+ghost use Rattle.instructions.specs.Action.{actionOf};
 
 // A loaded value extended, by the opcode counted from LDW: LDW, LDH, LDHU, LDB, LDBU.
 fn extend(kind: u32, v: u32) -> u32
@@ -26,12 +27,12 @@ fn extend(kind: u32, v: u32) -> u32
 }
 
 // The end of a load: the value extended into its register, or the fault with its address.
-fn land(kind: u32, read: Read, number: u32, address: u32, next: u32) -> Action
-    ensures { λ r. ⌜ r ≡ landed (getD extensions kind (zeroExtend 8)) number address next read ⌝ }
+fn land(kind: u32, read: Read, number: u32, address: u32, next: u32) -> Coded
+    ensures { λ r. ⌜ actionOf r ≡ landed (getD extensions kind (zeroExtend 8)) number address next read ⌝ }
 {
     match read {
-        Read::Value(v) => Action::Write(number, extend(kind, v), next),
-        Read::Fault(eid) => Action::Exception(eid, address, 0),
+        Read::Value(v) => Coded::Write(number, extend(kind, v), next),
+        Read::Fault(eid) => Coded::Exception(eid, address, 0),
     }
 }
 
@@ -48,50 +49,50 @@ pub fn transfer<'a>(
     y: u32,
     word: u32,
     next: u32,
-) -> Action
-    ensures { λ r. ⌜ r ≡ getD transfers kind (simple illegal) (surroundings psw (now (highs .entry)) (now (lows .entry)) (memory (now (ram .entry)) (now (rom .entry)) (now (belt .entry)))) (operands x y word next) ⌝ }
+) -> Coded
+    ensures { λ r. ⌜ actionOf r ≡ getD transfers kind (simple illegal) (around psw highs lows ram rom belt) (operands x y word next) ⌝ }
 {
     let n = word / 0x1_0000 % 32;
     let address = sums::add(x, extension::sign_extend_16(word));
     match kind {
         0 => land(
             0,
-            reads::read_word(psw, highs, lows, ram, rom, belt, address),
+            access::read_word(psw, highs, lows, ram, rom, belt, address),
             n,
             address,
             next,
         ),
         1 => land(
             1,
-            reads::read_half(psw, highs, lows, ram, rom, belt, address),
+            access::read_half(psw, highs, lows, ram, rom, belt, address),
             n,
             address,
             next,
         ),
         2 => land(
             2,
-            reads::read_half(psw, highs, lows, ram, rom, belt, address),
+            access::read_half(psw, highs, lows, ram, rom, belt, address),
             n,
             address,
             next,
         ),
         3 => land(
             3,
-            reads::read_byte(psw, highs, lows, ram, rom, belt, address),
+            access::read_byte(psw, highs, lows, ram, rom, belt, address),
             n,
             address,
             next,
         ),
         4 => land(
             4,
-            reads::read_byte(psw, highs, lows, ram, rom, belt, address),
+            access::read_byte(psw, highs, lows, ram, rom, belt, address),
             n,
             address,
             next,
         ),
-        5 => writes::store(psw, highs, lows, ram, rom, belt, Width::Word, y, address),
-        6 => writes::store(psw, highs, lows, ram, rom, belt, Width::Half, y, address),
-        7 => writes::store(psw, highs, lows, ram, rom, belt, Width::Byte, y, address),
-        _ => Action::Exception(Processor::ILLEGAL_INSTRUCTION, 0, 0),
+        5 => access::store(psw, highs, lows, ram, rom, belt, Width::Word, y, address),
+        6 => access::store(psw, highs, lows, ram, rom, belt, Width::Half, y, address),
+        7 => access::store(psw, highs, lows, ram, rom, belt, Width::Byte, y, address),
+        _ => Coded::Exception(Processor::ILLEGAL_INSTRUCTION, 0, 0),
     }
 }

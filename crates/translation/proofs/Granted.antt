@@ -1,6 +1,6 @@
 -- What a granted address tells in User Mode, and what the translation reads.
-use mathlib.Core.Path.{_≡_, refl, ap, sym, _∙_}
-use mathlib.Core.Bool.{Bool, true, false, not, cond, true≢false}
+use mathlib.Core.Path.{_≡_}
+use mathlib.Core.Bool.{Bool, true, not}
 use mathlib.Core.List.{List}
 use Prim.Native.Nat.{ℕ, _+_, _*_, _/_, _%_, _≤_, _<_}
 use native.Mathlib.Omega.{arith}
@@ -9,9 +9,11 @@ use lib.ListN.{getD}
 use borrow.Author.Tests.{ltb-true, leb-true, leb-false, eqb-true}
 use Rattle.words.specs.Logic.{both}
 use Rattle.status.specs.Psw.{userMode}
-use Rattle.lookup.specs.Lookup.{pageOf, lookup}
+use Rattle.tlb.specs.Lookup.{pageOf, lookup}
 use Rattle.translation.specs.Translation.{frameOf, valid, writable, through, mapped, forbidden, translated}
-use Rattle.translation.specs.declared.Translation.{Translation}
+use Rattle.words.proofs.Cases.{by-test}
+use Rattle.words.proofs.Conjunction.{first-fails, second-fails, not-false}
+use Rattle.translation.proofs.Resolved.{refused}
 use Rattle.translation.specs.declared.Translation.the-variants.{Physical, TlbMiss, TlbWrite, TlbInvalid, IllegalAddress, PrivilegedAddress}
 
 -- an aligned address, in a page below 80000 whose entry is valid, writable for a store, and names the frame of the physical address
@@ -23,58 +25,27 @@ pub record Granted (highs lows : List ℕ) (width : ℕ) (store : Bool) (address
   pub may-write : store ≡ true → writable (getD lows (lookup highs (pageOf address)) 0) ≡ true
   pub place : physical ≡ frameOf (getD lows (lookup highs (pageOf address)) 0) * 4096 + address % 4096
 
-isPhysical : Translation → Bool
-isPhysical (Physical x) = true
-isPhysical TlbMiss = false
-isPhysical TlbWrite = false
-isPhysical TlbInvalid = false
-isPhysical IllegalAddress = false
-isPhysical PrivilegedAddress = false
-
--- a fault is no physical address
-refused {ℓ} : {A : Type ℓ} {x : ℕ} (t : Translation) → isPhysical t ≡ false → t ≡ Physical x → A
-unfolding isPhysical
-refused t f e = absurd (true≢false (sym (ap isPhysical e) ∙ f))
-
--- by the test that picks
-chosen {ℓ} : {A : Type ℓ} (t : Bool) {x y r : Translation} → cond t x y ≡ r → (t ≡ true → x ≡ r → A) → (t ≡ false → y ≡ r → A) → A
-chosen true e f g = f refl e
-chosen false e f g = g refl e
-
-not-false : (t : Bool) → not t ≡ false → t ≡ true
-not-false true e = refl
-not-false false e = sym e
-
--- where both fail and one holds, the other fails
-first-fails : (t u : Bool) → both t u ≡ false → u ≡ true → t ≡ false
-first-fails true u e h = sym h ∙ e
-first-fails false u e h = refl
-
-second-fails : (t u : Bool) → both t u ≡ false → t ≡ true → u ≡ false
-second-fails true u e h = e
-second-fails false u e h = absurd (true≢false (sym h))
-
 module _ (psw : ℕ) (highs lows : List ℕ) (width : ℕ) (store : Bool) (address physical : ℕ) where
   abbrev low : ℕ
   low = getD lows (lookup highs (pageOf address)) 0
 
   pub user-granted : userMode psw ≡ true → translated psw highs lows width store address ≡ Physical physical
       → Granted highs lows width store address physical
-  unfolding translated forbidden mapped through isPhysical
+  unfolding translated forbidden mapped through
   user-granted user e =
-      chosen (not (eqb (address % width) 0)) e
-      (λ _ no. refused IllegalAddress refl no)
-      (λ straight e1. chosen (both (leb 0x80000000 address) (userMode psw)) e1
-      (λ _ no. refused PrivilegedAddress refl no)
+      by-test (not (eqb (address % width) 0)) e
+      (λ _ no. refused IllegalAddress (omega arith) no)
+      (λ straight e1. by-test (both (leb 0x80000000 address) (userMode psw)) e1
+      (λ _ no. refused PrivilegedAddress (omega arith) no)
       (λ free e2.
       let under : address < 0x80000000 = leb-false 0x80000000 address (first-fails _ _ free user) in
-      chosen (leb 0xC0000000 address) e2
+      by-test (leb 0xC0000000 address) e2
       (λ direct _. absurd (omega (arith, leb-true 0xC0000000 address direct)))
-      (λ _ e3. chosen (ltb (lookup highs (pageOf address)) 32) e3
-      (λ found e4. chosen (not (valid low)) e4
-      (λ _ no. refused TlbInvalid refl no)
-      (λ ok e5. chosen (both store (not (writable low))) e5
-      (λ _ no. refused TlbWrite refl no)
+      (λ _ e3. by-test (ltb (lookup highs (pageOf address)) 32) e3
+      (λ found e4. by-test (not (valid low)) e4
+      (λ _ no. refused TlbInvalid (omega arith) no)
+      (λ ok e5. by-test (both store (not (writable low))) e5
+      (λ _ no. refused TlbWrite (omega arith) no)
       (λ may e6.
       record {
         aligned = eqb-true (address % width) 0 (not-false (eqb (address % width) 0) straight);
@@ -84,7 +55,7 @@ module _ (psw : ℕ) (highs lows : List ℕ) (width : ℕ) (store : Bool) (addre
         may-write = λ s. not-false (writable low) (second-fails store (not (writable low)) may s);
         place = cc;
       })))
-      (λ _ no. refused TlbMiss refl no))))
+      (λ _ no. refused TlbMiss (omega arith) no))))
 
 -- of the PSW the translation reads U_C alone
 pub reads-user-mode : (psw psw′ : ℕ) (highs lows : List ℕ) (width : ℕ) (store : Bool) (address : ℕ) → userMode psw ≡ userMode psw′

@@ -1,2 +1,3 @@
 -- The laws of `translation`.
+pub mod Resolved
 pub mod Granted

@@ -6,7 +6,8 @@ use lib.Dec.{leb, ltb, eqb}
 use lib.ListN.{getD}
 use Rattle.words.specs.Logic.{both}
 use Rattle.status.specs.Psw.{userMode}
-use Rattle.lookup.specs.Lookup.{pageOf, lookup}
+use Rattle.exceptions.specs.Entry.{noException}
+use Rattle.tlb.specs.Lookup.{pageOf, noEntry, lookup}
 use Rattle.translation.specs.declared.Width.{Width}
 use Rattle.translation.specs.declared.Width.the-variants.{Byte, Half, Word}
 use Rattle.translation.specs.declared.Translation.{Translation}
@@ -40,7 +41,7 @@ through low store address =
 -- below C0000000: by the TLB
 unfoldable pub mapped : List ℕ → List ℕ → Bool → ℕ → Translation
 mapped highs lows store address =
-    cond (ltb (lookup highs (pageOf address)) 32)
+    cond (ltb (lookup highs (pageOf address)) noEntry)
     (through (getD lows (lookup highs (pageOf address)) 0) store address)
     TlbMiss
 
@@ -59,11 +60,15 @@ translated psw highs lows width store address =
     (Physical (address - 0xC0000000))
     (mapped highs lows store address)))
 
--- the exception that an answer names, or 32
+-- what becomes of a translation: of the physical address, or of the fault by its number (document 01, "One step")
+abbrev pub resolved : {A : Type 0} → (ℕ → A) → (ℕ → A) → Translation → A
+resolved at fault (Physical address) = at address
+resolved at fault TlbMiss = fault 21
+resolved at fault TlbWrite = fault 22
+resolved at fault TlbInvalid = fault 23
+resolved at fault IllegalAddress = fault 24
+resolved at fault PrivilegedAddress = fault 25
+
+-- the exception that an answer names, or `noException`
 abbrev pub translationEid : Translation → ℕ
-translationEid (Physical address) = 32
-translationEid TlbMiss = 21
-translationEid TlbWrite = 22
-translationEid TlbInvalid = 23
-translationEid IllegalAddress = 24
-translationEid PrivilegedAddress = 25
+translationEid t = resolved (λ address. noException) (λ eid. eid) t

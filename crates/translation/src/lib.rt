@@ -1,12 +1,13 @@
-// The parts of the translation of a virtual address (document 01, "One step"; manual, 2.9): its tests, and a TLB entry.
-use lookup::Words;
+// The translation of a virtual address to a physical one, or its fault (document 01, "One step"; manual, 2.9).
+use tlb::Words;
 ghost use mathlib.Core.Path.{_≡_};
 ghost use mathlib.Core.Bool.{not, cond};
 ghost use Prim.Native.Nat.{_%_};
 ghost use lib.Dec.{ltb, eqb};
 ghost use lib.ListN.{getD};
-ghost use Rattle.translation.specs.Translation.{bytesOf, through, forbidden};
+ghost use Rattle.translation.specs.Translation.{bytesOf, through, forbidden, translated, translationEid};
 ghost use Rattle.translation.specs.declared.Translation.the-variants.{TlbMiss};
+ghost use Rattle.tlb.specs.Found.{Serves};
 
 // The size of an access.
 pub enum Width {
@@ -66,4 +67,57 @@ pub fn entry(lows: &Words, i: usize, store: bool, address: u32) -> Translation
         return through(lows[i], store, address);
     }
     Translation::TlbMiss
+}
+
+// With the index of the address's page at hand: `highs` is in the contract alone.
+pub fn translate_at<'a>(
+    psw: u32,
+    highs: &'a Words,
+    lows: &'a Words,
+    i: usize,
+    width: Width,
+    store: bool,
+    address: u32,
+) -> Translation
+    requires { ⌜ Serves (now highs) i address ⌝ }
+    ensures { λ r. ⌜ r ≡ translated psw (now (highs .entry)) (now (lows .entry)) (bytesOf width) store address ⌝ }
+{
+    if is_misaligned(address, width) {
+        return Translation::IllegalAddress;
+    }
+    if is_forbidden(psw, address) {
+        return Translation::PrivilegedAddress;
+    }
+    if 0xC000_0000 <= address {
+        return Translation::Physical(address - 0xC000_0000);
+    }
+    entry(lows, i, store, address)
+}
+
+pub fn translate<'a>(
+    psw: u32,
+    highs: &'a Words,
+    lows: &'a Words,
+    width: Width,
+    store: bool,
+    address: u32,
+) -> Translation
+    ensures { λ r. ⌜ r ≡ translated psw (now (highs .entry)) (now (lows .entry)) (bytesOf width) store address ⌝ }
+{
+    let i = tlb::index_of(highs, address);
+    translate_at(psw, highs, lows, i, width, store, address)
+}
+
+// The identifier of the fault, or 32.
+pub fn eid_of(answer: Translation) -> u32
+    ensures { λ r. ⌜ r ≡ translationEid answer ⌝ }
+{
+    match answer {
+        Translation::Physical(_) => exceptions::NO_EXCEPTION,
+        Translation::TlbMiss => exceptions::TLB_MISS,
+        Translation::TlbWrite => exceptions::TLB_WRITE,
+        Translation::TlbInvalid => exceptions::TLB_INVALID,
+        Translation::IllegalAddress => exceptions::ILLEGAL_ADDRESS,
+        Translation::PrivilegedAddress => exceptions::PRIVILEGED_ADDRESS,
+    }
 }

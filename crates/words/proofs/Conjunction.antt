@@ -1,9 +1,11 @@
 -- Tests that all pass; and those joined by `&` from the left, as code has them, and by `both` from the right, as definitions have them.
-use mathlib.Core.Path.{_≡_, refl, _∙_}
-use mathlib.Core.Bool.{Bool, true, false, _&&_}
+use mathlib.Core.Path.{_≡_, refl, sym, _∙_}
+use mathlib.Core.Bool.{Bool, true, false, not, _&&_, true≢false}
+use mathlib.Core.List.{List, [], _∷_}
 use Prim.Native.Nat.{ℕ}
 use native.Mathlib.Omega.{arith}
 use Rattle.words.specs.Logic.{both}
+use Rattle.words.specs.Lists.{Every}
 
 -- ---- what they say
 
@@ -13,6 +15,39 @@ both-true false b e = absurd (let z : _≡_ {A = ℕ} 0 1 = cc in omega arith)
 
 pub true-both : (a b : Bool) → a ≡ true → b ≡ true → both a b ≡ true
 true-both a b e f = rw (e, f)
+
+-- several, joined from the right
+abbrev pub all : List Bool → Bool
+all [] = true
+all (t ∷ []) = t
+all (t ∷ u ∷ ts) = both t (all (u ∷ ts))
+
+pub all-true : (ts : List Bool) → all ts ≡ true → Every (λ t. t ≡ true) ts
+all-true [] e = tt
+all-true (t ∷ []) e = (e, tt)
+all-true (t ∷ u ∷ ts) e = let h = both-true t (all (u ∷ ts)) e in (h .0, all-true (u ∷ ts) (h .1))
+
+pub true-all : (ts : List Bool) → Every (λ t. t ≡ true) ts → all ts ≡ true
+true-all [] h = refl
+true-all (t ∷ []) h = h .0
+true-all (t ∷ u ∷ ts) h = true-both t (all (u ∷ ts)) (h .0) (true-all (u ∷ ts) (h .1))
+
+pub second-false : (t u : Bool) → u ≡ false → both t u ≡ false
+second-false true u e = e
+second-false false u e = refl
+
+-- where both fail and one holds, the other fails
+pub first-fails : (t u : Bool) → both t u ≡ false → u ≡ true → t ≡ false
+first-fails true u e h = sym h ∙ e
+first-fails false u e h = refl
+
+pub second-fails : (t u : Bool) → both t u ≡ false → t ≡ true → u ≡ false
+second-fails true u e h = e
+second-fails false u e h = absurd (true≢false (sym h))
+
+pub not-false : (t : Bool) → not t ≡ false → t ≡ true
+not-false true e = refl
+not-false false e = sym e
 
 -- ---- `&` and `both`
 

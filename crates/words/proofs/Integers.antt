@@ -48,6 +48,15 @@ pub by-sign {ℓ} : (P : ℤ → Type ℓ) (n : ℕ) → n < 2 ^ 32
 by-sign P n h low high =
     below-or-not n (2 ^ 31) (λ l. rw (signed-low n l) (low l)) (λ l. rw (signed-high n l h) (high l))
 
+-- by the signs of two
+pub by-signs {ℓ} : (P : ℤ → ℤ → Type ℓ) (x y : ℕ) → x < 2 ^ 32 → y < 2 ^ 32
+    → (x < 2 ^ 31 → y < 2 ^ 31 → P (pos x) (pos y)) → (x < 2 ^ 31 → 2 ^ 31 ≤ y → P (pos x) (negsuc (4294967295 - y)))
+    → (2 ^ 31 ≤ x → y < 2 ^ 31 → P (negsuc (4294967295 - x)) (pos y)) → (2 ^ 31 ≤ x → 2 ^ 31 ≤ y → P (negsuc (4294967295 - x)) (negsuc (4294967295 - y)))
+    → P (signed 32 x) (signed 32 y)
+by-signs P x y hx hy pp pn np nn =
+    by-sign (λ u. P u (signed 32 y)) x hx
+    (λ lx. by-sign (P (pos x)) y hy (pp lx) (pn lx)) (λ lx. by-sign (P (negsuc (4294967295 - x))) y hy (np lx) (nn lx))
+
 -- the word of the signed reading is the word
 pub word-signed : (n : ℕ) → n < 2 ^ 32 → wordOf (signed 32 n) ≡ n
 word-signed n h = by-sign (λ z. wordOf z ≡ n) n h (λ l. word-pos n h) (λ l. word-negsuc _ (omega arith) ∙ omega arith)

@@ -1,6 +1,7 @@
--- The laws of `words`, in the order to read them.
+-- The laws of `words`.
 pub mod Cases
 pub mod Conjunction
 pub mod Counts
+pub mod Every
 pub mod Integers
 pub mod SignExtension

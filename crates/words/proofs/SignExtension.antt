@@ -6,7 +6,7 @@ use native.Mathlib.Omega.{arith}
 use lib.IntN.{ℤ, pos, negsuc, subℕ}
 use lib.Pow.{pow-pos, pow-mono, pow-add, mod-pow-add}
 use Rattle.words.specs.Numbers.{bit, signExtend, signed}
-use Rattle.words.proofs.Cases.{below-or-not}
+use Rattle.words.proofs.Cases.{below-or-not, bit-lt}
 use Rattle.words.proofs.Integers.{signed-low, signed-high, sub-pos, sub-neg}
 
 -- what two numbers below the modulus come to, and one that is the modulus more
@@ -67,10 +67,6 @@ module _ (w n : ℕ) where
   rest-lt : n % 2 ^ w < 2 ^ w
   rest-lt = mod-lt n (pow-pos w)
 
-  top-lt : bit w n < 2
-  unfolding bit
-  top-lt = omega arith
-
 -- by the top bit
 by-top {ℓ} : (P : ℕ → Type ℓ) (b : ℕ) → b < 2 → P 0 → P 1 → P b
 by-top P zero h f g = f
@@ -94,7 +90,7 @@ sign-extends w n r hw hr e =
     (λ b. (r + 2 ^ w) % 2 ^ 32 ≡ (b * 2 ^ w + n % 2 ^ w + 2 ^ w) % (2 * 2 ^ w)
     → r ≡ b * 2 ^ w + n % 2 ^ w + b * (2 ^ 32 - 2 * 2 ^ w))
     (bit w n)
-    (top-lt w n)
+    (bit-lt w n)
     (λ f. simp (zero-mul, zero-add, add-zero)
     (clear (2 ^ w) (n % 2 ^ w) (2 ^ 32) r (rest-lt w n) (half w hw) hr (simp (zero-mul, zero-add) at f)))
     (λ f. simp one-mul (set (2 ^ w) (n % 2 ^ w) (2 ^ 32) r (rest-lt w n) (half w hw) hr (simp one-mul at f)))
@@ -108,6 +104,6 @@ keeps-signed w n hw =
     (by-top
     (λ b. signed 32 (b * 2 ^ w + n % 2 ^ w + b * (2 ^ 32 - 2 * 2 ^ w)) ≡ subℕ (n % 2 ^ w) (b * 2 ^ w))
     (bit w n)
-    (top-lt w n)
+    (bit-lt w n)
     (simp (zero-mul, zero-add, add-zero) (reads-clear (2 ^ w) (n % 2 ^ w) (rest-lt w n) (half w hw)))
     (simp one-mul (reads-set (2 ^ w) (n % 2 ^ w) (rest-lt w n) (half w hw))))

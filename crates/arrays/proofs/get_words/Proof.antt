@@ -13,7 +13,9 @@ use Rattle.arrays.proofs.get_words.Statement.{statement}
 use Rattle.arrays.proofs.get_words.Tie as tie
 
 abbrev Inv-loop : tie.InvT-loop
-Inv-loop s at stride words₀ i₀ words i = (i ≤ length words₀) × (length words ≡ length words₀) × (wordsAt (length words₀) s at stride ≡ take i words ++ wordsAt (length words₀ - i) s (at + i * stride) stride)
+Inv-loop s at stride words₀ i₀ words i =
+    (i ≤ length words₀) × (length words ≡ length words₀) × (wordsAt (length words₀) s at stride ≡ take i words ++ wordsAt (length words₀ - i) s
+    (at + i * stride) stride)
 
 abbrev μ-loop : tie.MeasureT-loop
 μ-loop s at stride words₀ i₀ words i = length words₀ - i
@@ -33,46 +35,29 @@ read-word-requires : tie.Need-read-word-requires Inv-loop μ-loop
 read-word-requires c κs = let below : c .before .loop .i < length (now (c .before .before .before .before .args .words)) = omega arith in
     in-slice _ _ _ (c .before .loop .i) _ (c .before .before .before .before .pre) below
 
-mul-words : tie.Need-mul-words Inv-loop μ-loop
-mul-words c = search needs
-
-slice-write-words : tie.Need-slice-write-words Inv-loop μ-loop
-slice-write-words c = omega arith
-
-add-i : tie.Need-add-i Inv-loop μ-loop
-add-i c = omega arith
-
-loop-less : tie.Need-loop-less Inv-loop μ-loop
-loop-less c = omega arith
-
 loop-again : tie.Need-loop-again Inv-loop μ-loop
 loop-again c =
-    let below : c .before .before .loop .i < length (now (c .before .before .before .before .before .args .words)) = omega arith in (
+    let at-loop = c .before .before in
+    let args = at-loop .before .before .before .args in
+    let below : at-loop .loop .i < length (now (args .words)) = omega arith in (
       omega arith,
-      simp length-set (c .before .before .loop .inv .1),
-      rw (c .read-word .ensures) (c .before .before .loop .inv .2 ∙ get-more (now (c .before .before .before .before .before .args .s)) (c .before .before .before .before .before .args .at) (c .before .before .before .before .before .args .stride) (length (now (c .before .before .before .before .before .args .words))) (c .before .before .loop .i) (c .before .before .loop .words) (c .before .before .loop .inv .1) below),
+      simp length-set (at-loop .loop .inv .1),
+      rw (c .read-word .ensures)
+          (at-loop .loop .inv .2 ∙ get-more (now (args .s)) (args .at) (args .stride) (length (now (args .words))) (at-loop .loop .i) (at-loop .loop .words)
+          (at-loop .loop .inv .1) below),
     )
 
 same-length : tie.Need-same-length Inv-loop μ-loop
 same-length c = c .before .loop .inv .1
 
 returns : tie.Need-returns Inv-loop μ-loop
-returns c = sym (c .before .loop .inv .2 ∙ get-end (now (c .before .before .before .before .args .s)) (c .before .before .before .before .args .at) (c .before .before .before .before .args .stride) (length (now (c .before .before .before .before .args .words))) (c .before .loop .i) (c .before .loop .words) (c .before .loop .inv .1) (omega arith))
+returns c =
+    let args = c .before .before .before .before .args in
+    sym (c .before .loop .inv .2 ∙ get-end (now (args .s)) (args .at) (args .stride) (length (now (args .words))) (c .before .loop .i) (c .before .loop .words)
+    (c .before .loop .inv .1) (omega arith))
 
 pub get-words-spec : {M : Type 1} → statement M
 get-words-spec =
     tie.close
-    (tie.spec
-    Inv-loop
-    μ-loop
-    loop-holds
-    mul-read-word
-    add-read-word
-    read-word-requires
-    mul-words
-    slice-write-words
-    add-i
-    loop-less
-    loop-again
-    same-length
-    returns)
+    (tie.spec Inv-loop μ-loop loop-holds mul-read-word add-read-word read-word-requires (λ c. search needs) (λ c. omega arith) (λ c. omega arith)
+    (λ c. omega arith) loop-again same-length returns)

@@ -6,12 +6,6 @@ use Rattle.bitwise.specs.Bitwise.{xnor}
 use Rattle.bitwise.proofs.xnor.Statement.{statement}
 use Rattle.bitwise.proofs.xnor.Tie as tie
 
-sub-result : tie.Need-sub-result
-sub-result c = le-pred-of-lt (xor-lt 32 (c .args .x) (c .args .y) (c .fits .x .fits) (c .fits .y .fits))
-
-returns : tie.Need-returns
-unfolding xnor
-returns c = search needs
-
 pub xnor-spec : {M : Type 1} → statement M
-xnor-spec = tie.close (tie.spec sub-result returns)
+unfolding xnor
+xnor-spec = tie.close (tie.spec (λ c. le-pred-of-lt (xor-lt 32 (c .args .x) (c .args .y) (c .fits .x .fits) (c .fits .y .fits))) (λ c. search needs))

@@ -4,9 +4,6 @@ use Rattle.bitwise.specs.Bitwise.{xor}
 use Rattle.bitwise.proofs.xor.Statement.{statement}
 use Rattle.bitwise.proofs.xor.Tie as tie
 
-returns : tie.Need-returns
-unfolding xor
-returns c = search needs
-
 pub xor-spec : {M : Type 1} → statement M
-xor-spec = tie.close (tie.spec returns)
+unfolding xor
+xor-spec = tie.close (tie.spec (λ c. search needs))

@@ -5,9 +5,6 @@ use borrow.Author.Needs.{needs}
 use Rattle.endian.proofs.byte_at.Statement.{statement}
 use Rattle.endian.proofs.byte_at.Tie as tie
 
-shared-slice-read-b : tie.Need-shared-slice-read-b
-shared-slice-read-b c = search needs
-
 cast-result : tie.Need-cast-result
 cast-result c = record { fits = byte-fits _ (c .shared-slice-known .given _ .fits) }
 
@@ -15,4 +12,4 @@ returns : tie.Need-returns
 returns c = (refl, c .shared-slice-known .given _ .fits)
 
 pub byte-at-spec : {M : Type 1} → statement M
-byte-at-spec = tie.close (tie.spec shared-slice-read-b cast-result returns)
+byte-at-spec = tie.close (tie.spec (λ c. search needs) cast-result returns)

@@ -5,11 +5,8 @@ use borrow.Author.Needs.{needs}
 use Rattle.endian.proofs.read_byte.Statement.{statement}
 use Rattle.endian.proofs.read_byte.Tie as tie
 
-byte-at-requires : tie.Need-byte-at-requires
-byte-at-requires c κs = search needs
-
 returns : tie.Need-returns
 returns c = c .byte-at .ensures .0 ∙ sym (byte-read _ _)
 
 pub read-byte-spec : {M : Type 1} → statement M
-read-byte-spec = tie.close (tie.spec byte-at-requires returns)
+read-byte-spec = tie.close (tie.spec (λ c κs. search needs) returns)

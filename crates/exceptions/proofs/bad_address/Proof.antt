@@ -3,14 +3,8 @@ use borrow.Author.Tests.{le-leb, lt-leb}
 use Rattle.exceptions.proofs.bad_address.Statement.{statement}
 use Rattle.exceptions.proofs.bad_address.Tie as tie
 
-returns : tie.Need-returns
-returns c = simp (lt-leb _ _ (c .if1 .taken))
-
-returns-2 : tie.Need-returns-2
-returns-2 c = simp (le-leb _ _ (c .before .if1 .left), le-leb _ _ (c .if2 .taken))
-
-returns-3 : tie.Need-returns-3
-returns-3 c = simp (le-leb _ _ (c .before .if1 .left), lt-leb _ _ (c .if2 .left))
-
 pub bad-address-spec : {M : Type 1} → statement M
-bad-address-spec = tie.close (tie.spec returns returns-2 returns-3)
+bad-address-spec =
+    tie.close
+    (tie.spec (λ c. simp (lt-leb _ _ (c .if1 .taken))) (λ c. simp (le-leb _ _ (c .before .if1 .left), le-leb _ _ (c .if2 .taken)))
+    (λ c. simp (le-leb _ _ (c .before .if1 .left), lt-leb _ _ (c .if2 .left))))

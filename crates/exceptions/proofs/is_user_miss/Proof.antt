@@ -4,13 +4,6 @@ use Rattle.exceptions.specs.Entry.{userMiss}
 use Rattle.exceptions.proofs.is_user_miss.Statement.{statement}
 use Rattle.exceptions.proofs.is_user_miss.Tie as tie
 
-returns : tie.Need-returns
-unfolding userMiss
-returns c = simp (eq-eqb _ _ (c .if1 .taken))
-
-returns-2 : tie.Need-returns-2
-unfolding userMiss
-returns-2 c = simp (ne-eqb _ _ (c .if1 .left))
-
 pub is-user-miss-spec : {M : Type 1} → statement M
-is-user-miss-spec = tie.close (tie.spec returns returns-2)
+unfolding userMiss
+is-user-miss-spec = tie.close (tie.spec (λ c. simp (eq-eqb _ _ (c .if1 .taken))) (λ c. simp (ne-eqb _ _ (c .if1 .left))))

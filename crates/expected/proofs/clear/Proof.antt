@@ -1,49 +1,21 @@
--- `expected::clear` meets its contract, by the laws of ExpectedLaws.
-use Rattle.expected.proofs.ExpectedLaws.{cleared-is}
+-- `expected::clear` meets its contract, by its definition.
+use Rattle.expected.specs.Expected.{clear}
+use borrow.Author.Needs.{needs}
 use Rattle.expected.proofs.clear.Statement.{statement}
 use Rattle.expected.proofs.clear.Tie as tie
 
-reset-requires : tie.Need-reset-requires
-reset-requires c κs = tt
-
-write-requires : tie.Need-write-requires
-write-requires c κs = tt
-
-clear-requires : tie.Need-clear-requires
-clear-requires c κs = tt
-
-clear-requires-2 : tie.Need-clear-requires-2
-clear-requires-2 c κs = tt
-
-clear-requires-3 : tie.Need-clear-requires-3
-clear-requires-3 c κs = tt
-
-same-length : tie.Need-same-length
-same-length c = c .before .before .before .before .before .before .before .before .before .before .before .before .before .before .write .kept .1 .0
-
-same-length-2 : tie.Need-same-length-2
-same-length-2 c = c .before .before .before .before .before .before .before .before .before .before .clear .kept .0
-
-same-length-3 : tie.Need-same-length-3
-same-length-3 c = c .before .before .before .before .before .before .clear2 .kept .0
-
-same-length-4 : tie.Need-same-length-4
-same-length-4 c = c .before .before .clear3 .kept .0
-
 returns : tie.Need-returns
-returns c = cleared-is _ _ _ _ _ _ (c .before .before .before .before .before .before .before .before .before .before .before .before .before .before .before .before .reset .ensures) (c .before .before .before .before .before .before .before .before .before .before .before .before .before .before .write .ensures .1) (c .before .before .before .before .before .before .before .before .before .before .clear .ensures) (c .before .before .before .before .before .before .clear2 .ensures) (c .before .before .clear3 .ensures)
+unfolding clear
+returns c =
+    let at-clear3 = c .before .before in
+    let at-clear2 = at-clear3 .before .before .before .before in
+    let at-clear = at-clear2 .before .before .before .before in
+    let at-write = at-clear .before .before .before .before in
+    let at-reset = at-write .before .before in
+    rw (at-write .write .ensures .1, at-clear .clear .ensures, at-clear2 .clear2 .ensures, at-clear3 .clear3 .ensures, at-reset .reset .ensures)
 
 pub clear-spec : {M : Type 1} → statement M
 clear-spec =
     tie.close
-    (tie.spec
-    reset-requires
-    write-requires
-    clear-requires
-    clear-requires-2
-    clear-requires-3
-    same-length
-    same-length-2
-    same-length-3
-    same-length-4
-    returns)
+    (tie.spec (λ c κs. search needs) (λ c κs. search needs) (λ c κs. search needs) (λ c κs. search needs) (λ c κs. search needs) (λ c. search needs)
+    (λ c. search needs) (λ c. search needs) (λ c. search needs) returns)

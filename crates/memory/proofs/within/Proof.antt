@@ -8,14 +8,8 @@ use Rattle.memory.proofs.within.Tie as tie
 returns : tie.Need-returns
 returns c = sym (within-not (c .before .args .base) (c .before .args .len) (c .before .args .width) (c .before .args .address) (c .if1 .taken))
 
-cast-result : tie.Need-cast-result
-cast-result c = search needs
-
-add-result : tie.Need-add-result
-add-result c = search needs
-
 returns-2 : tie.Need-returns-2
 returns-2 c = sym (within-by-end (c .before .args .base) (c .before .args .len) (c .before .args .width) (c .before .args .address) (c .if1 .left))
 
 pub within-spec : {M : Type 1} → statement M
-within-spec = tie.close (tie.spec returns cast-result add-result returns-2)
+within-spec = tie.close (tie.spec returns (λ c. search needs) (λ c. search needs) returns-2)

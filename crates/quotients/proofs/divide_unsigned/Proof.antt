@@ -6,16 +6,6 @@ use Rattle.quotients.specs.Quotients.{unsignedQuotient}
 use Rattle.quotients.proofs.divide_unsigned.Statement.{statement}
 use Rattle.quotients.proofs.divide_unsigned.Tie as tie
 
-returns : tie.Need-returns
-unfolding unsignedQuotient
-returns c = rw (c .if1 .taken) (sym (div-zero (c .before .args .x)))
-
-div-result : tie.Need-div-result
-div-result c = search needs
-
-returns-2 : tie.Need-returns-2
-unfolding unsignedQuotient
-returns-2 c = search needs
-
 pub divide-unsigned-spec : {M : Type 1} → statement M
-divide-unsigned-spec = tie.close (tie.spec returns div-result returns-2)
+unfolding unsignedQuotient
+divide-unsigned-spec = tie.close (tie.spec (λ c. rw (c .if1 .taken) (sym (div-zero (c .before .args .x)))) (λ c. search needs) (λ c. search needs))

@@ -6,16 +6,6 @@ use Rattle.quotients.specs.Quotients.{unsignedRemainder}
 use Rattle.quotients.proofs.remainder_unsigned.Statement.{statement}
 use Rattle.quotients.proofs.remainder_unsigned.Tie as tie
 
-returns : tie.Need-returns
-unfolding unsignedRemainder
-returns c = rw (c .if1 .taken) (sym (mod-zero (c .before .args .x)))
-
-rem-result : tie.Need-rem-result
-rem-result c = search needs
-
-returns-2 : tie.Need-returns-2
-unfolding unsignedRemainder
-returns-2 c = search needs
-
 pub remainder-unsigned-spec : {M : Type 1} → statement M
-remainder-unsigned-spec = tie.close (tie.spec returns rem-result returns-2)
+unfolding unsignedRemainder
+remainder-unsigned-spec = tie.close (tie.spec (λ c. rw (c .if1 .taken) (sym (mod-zero (c .before .args .x)))) (λ c. search needs) (λ c. search needs))

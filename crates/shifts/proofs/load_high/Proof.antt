@@ -4,12 +4,6 @@ use Rattle.shifts.specs.Shifts.{loadHigh}
 use Rattle.shifts.proofs.load_high.Statement.{statement}
 use Rattle.shifts.proofs.load_high.Tie as tie
 
-mul-result : tie.Need-mul-result
-mul-result c = search needs
-
-returns : tie.Need-returns
-unfolding loadHigh
-returns c = search needs
-
 pub load-high-spec : {M : Type 1} → statement M
-load-high-spec = tie.close (tie.spec mul-result returns)
+unfolding loadHigh
+load-high-spec = tie.close (tie.spec (λ c. search needs) (λ c. search needs))

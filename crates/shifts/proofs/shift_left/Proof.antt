@@ -4,12 +4,6 @@ use Rattle.shifts.specs.Shifts.{shiftLeft}
 use Rattle.shifts.proofs.shift_left.Statement.{statement}
 use Rattle.shifts.proofs.shift_left.Tie as tie
 
-shl-result : tie.Need-shl-result
-shl-result c = search needs
-
-returns : tie.Need-returns
-unfolding shiftLeft
-returns c = search needs
-
 pub shift-left-spec : {M : Type 1} → statement M
-shift-left-spec = tie.close (tie.spec shl-result returns)
+unfolding shiftLeft
+shift-left-spec = tie.close (tie.spec (λ c. search needs) (λ c. search needs))

@@ -4,12 +4,6 @@ use Rattle.shifts.specs.Shifts.{shiftRight}
 use Rattle.shifts.proofs.shift_right.Statement.{statement}
 use Rattle.shifts.proofs.shift_right.Tie as tie
 
-shr-result : tie.Need-shr-result
-shr-result c = search needs
-
-returns : tie.Need-returns
-unfolding shiftRight
-returns c = search needs
-
 pub shift-right-spec : {M : Type 1} → statement M
-shift-right-spec = tie.close (tie.spec shr-result returns)
+unfolding shiftRight
+shift-right-spec = tie.close (tie.spec (λ c. search needs) (λ c. search needs))

@@ -4,9 +4,6 @@ use Rattle.status.specs.Psw.{userMode, userCurrent}
 use Rattle.status.proofs.is_user_mode.Statement.{statement}
 use Rattle.status.proofs.is_user_mode.Tie as tie
 
-returns : tie.Need-returns
-unfolding userMode userCurrent
-returns c = search needs
-
 pub is-user-mode-spec : {M : Type 1} → statement M
-is-user-mode-spec = tie.close (tie.spec returns)
+unfolding userMode userCurrent
+is-user-mode-spec = tie.close (tie.spec (λ c. search needs))

@@ -3,24 +3,12 @@ use mathlib.Core.Path.{refl, _∙_}
 use Prim.Native.Nat.{ℕ}
 use lib.ListN.{getD}
 use borrow.Author.Needs.{needs}
-use Rattle.transfer.specs.Transfer.{extensions}
+use Rattle.transfer.specs.Code.{extensions}
 use Rattle.instructions.proofs.Arms.{arm}
 use Rattle.transfer.proofs.Arms.{extension-last}
 use Rattle.words.specs.Numbers.{zeroExtend}
 use Rattle.transfer.proofs.extend.Statement.{statement}
 use Rattle.transfer.proofs.extend.Tie as tie
-
-sign-extend-16-requires : tie.Need-sign-extend-16-requires
-sign-extend-16-requires c κs = search needs
-
-zero-extend-16-requires : tie.Need-zero-extend-16-requires
-zero-extend-16-requires c κs = search needs
-
-sign-extend-8-requires : tie.Need-sign-extend-8-requires
-sign-extend-8-requires c κs = search needs
-
-zero-extend-8-requires : tie.Need-zero-extend-8-requires
-zero-extend-8-requires c κs = search needs
 
 returns : tie.Need-returns
 unfolding extensions
@@ -45,13 +33,4 @@ returns-5 c = c .zero-extend-8 .ensures ∙ extension-last (c .before .before .a
 pub extend-spec : {M : Type 1} → statement M
 extend-spec =
     tie.close
-    (tie.spec
-    sign-extend-16-requires
-    zero-extend-16-requires
-    sign-extend-8-requires
-    zero-extend-8-requires
-    returns
-    returns-2
-    returns-3
-    returns-4
-    returns-5)
+    (tie.spec (λ c κs. search needs) (λ c κs. search needs) (λ c κs. search needs) (λ c κs. search needs) returns returns-2 returns-3 returns-4 returns-5)

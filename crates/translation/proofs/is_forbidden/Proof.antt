@@ -9,12 +9,9 @@ returns : tie.Need-returns
 unfolding forbidden
 returns c = simp (lt-leb _ _ (c .if1 .taken))
 
-is-user-mode-requires : tie.Need-is-user-mode-requires
-is-user-mode-requires c κs = search needs
-
 returns-2 : tie.Need-returns-2
 unfolding forbidden
 returns-2 c = simp (le-leb _ _ (c .before .if1 .left), c .is-user-mode .ensures)
 
 pub is-forbidden-spec : {M : Type 1} → statement M
-is-forbidden-spec = tie.close (tie.spec returns is-user-mode-requires returns-2)
+is-forbidden-spec = tie.close (tie.spec returns (λ c κs. search needs) returns-2)

@@ -13,26 +13,13 @@ returns-2 : tie.Need-returns-2
 unfolding through valid writable
 returns-2 c = simp (eq-eqb _ _ (c .before .before .if1 .left), c .before .if2 .taken, ne-eqb _ _ (c .if3 .taken))
 
-mul-t7 : tie.Need-mul-t7
-mul-t7 c = search needs
-
-add-t10 : tie.Need-add-t10
-add-t10 c = search needs
-
 returns-3 : tie.Need-returns-3
 unfolding through valid writable
 returns-3 c = simp (eq-eqb _ _ (c .before .before .if1 .left), c .before .if2 .taken, eq-eqb _ _ (c .if3 .left))
-
-mul-t11 : tie.Need-mul-t11
-mul-t11 c = search needs
-
-add-t13 : tie.Need-add-t13
-add-t13 c = search needs
 
 returns-4 : tie.Need-returns-4
 unfolding through valid writable
 returns-4 c = simp (eq-eqb _ _ (c .before .if1 .left), c .if2 .left)
 
 pub through-spec : {M : Type 1} → statement M
-through-spec =
-    tie.close (tie.spec returns returns-2 mul-t7 add-t10 returns-3 mul-t11 add-t13 returns-4)
+through-spec = tie.close (tie.spec returns returns-2 (λ c. search needs) (λ c. search needs) returns-3 (λ c. search needs) (λ c. search needs) returns-4)

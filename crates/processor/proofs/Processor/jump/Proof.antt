@@ -4,9 +4,6 @@ use Rattle.processor.specs.Register.{jumped}
 use Rattle.processor.proofs.Processor.jump.Statement.{statement}
 use Rattle.processor.proofs.Processor.jump.Tie as tie
 
-returns : tie.Need-returns
-unfolding jumped
-returns c = search needs
-
 pub jump-spec : {M : Type 1} → statement M
-jump-spec = tie.close (tie.spec returns)
+unfolding jumped
+jump-spec = tie.close (tie.spec (λ c. search needs))

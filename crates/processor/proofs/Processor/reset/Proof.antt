@@ -4,9 +4,6 @@ use Rattle.processor.specs.State.{atReset}
 use Rattle.processor.proofs.Processor.reset.Statement.{statement}
 use Rattle.processor.proofs.Processor.reset.Tie as tie
 
-returns : tie.Need-returns
-unfolding atReset
-returns c = search needs
-
 pub reset-spec : {M : Type 1} → statement M
-reset-spec = tie.close (tie.spec returns)
+unfolding atReset
+reset-spec = tie.close (tie.spec (λ c. search needs))

@@ -4,14 +4,8 @@ use Rattle.words.proofs.SignExtension.{sign-extends}
 use Rattle.words.proofs.extension.sign_extend_8.Statement.{statement}
 use Rattle.words.proofs.extension.sign_extend_8.Tie as tie
 
-add-wrapping-sub-u32 : tie.Need-add-wrapping-sub-u32
-add-wrapping-sub-u32 c = search needs
-
-wrapping-sub-u32-requires : tie.Need-wrapping-sub-u32-requires
-wrapping-sub-u32-requires c κs = search needs
-
-returns : tie.Need-returns
-returns c = sign-extends 7 (c .before .args .n) _ (search needs) (search needs) (c .wrapping-sub-u32 .ensures)
-
 pub sign-extend-8-spec : {M : Type 1} → statement M
-sign-extend-8-spec = tie.close (tie.spec add-wrapping-sub-u32 wrapping-sub-u32-requires returns)
+sign-extend-8-spec =
+    tie.close
+    (tie.spec (λ c. search needs) (λ c κs. search needs)
+    (λ c. sign-extends 7 (c .before .args .n) _ (search needs) (search needs) (c .wrapping-sub-u32 .ensures)))

@@ -4,9 +4,6 @@ use Rattle.words.specs.Numbers.{zeroExtend}
 use Rattle.words.proofs.extension.zero_extend_26.Statement.{statement}
 use Rattle.words.proofs.extension.zero_extend_26.Tie as tie
 
-returns : tie.Need-returns
-unfolding zeroExtend
-returns c = search needs
-
 pub zero-extend-26-spec : {M : Type 1} → statement M
-zero-extend-26-spec = tie.close (tie.spec returns)
+unfolding zeroExtend
+zero-extend-26-spec = tie.close (tie.spec (λ c. search needs))

@@ -1,0 +1,3 @@
+-- The laws of `access`.
+pub mod ReadFaults
+pub mod WriteFaults

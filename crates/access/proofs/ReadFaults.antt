@@ -1,0 +1,29 @@
+-- A read by what its translation came to: a fault, or what the load at the physical address brought.
+use mathlib.Core.Path.{_≡_, refl, ap, sym, _∙_}
+use mathlib.Core.Bool.{false}
+use Prim.Native.Nat.{ℕ}
+use Rattle.translation.specs.Translation.{translated, translationEid}
+use Rattle.translation.specs.declared.Translation.{Translation}
+use Rattle.translation.specs.declared.Translation.the-variants.{Physical}
+use Rattle.translation.proofs.Resolved.{IsFault, at-fault}
+use Rattle.memory.specs.Map.{Memory}
+use Rattle.memory.specs.Access.{loadOf}
+use Rattle.memory.specs.declared.Loaded.{Loaded}
+use Rattle.instructions.specs.Operands.{Surroundings}
+use Rattle.access.specs.Reads.{answered, readThrough, readFrom}
+use Rattle.access.specs.declared.Read.{Read}
+use Rattle.access.specs.declared.Read.the-variants.{Fault}
+
+pub read-fault : (width : ℕ) (m : Memory) (t : Translation) → IsFault t → Fault (translationEid t) ≡ readThrough width m t
+read-fault width m t h = at-fault _ Fault t h
+
+-- the two ways through a read
+module _ (width : ℕ) (s : Surroundings) (address : ℕ) {t : Translation}
+    (e : t ≡ translated (s .psw) (s .highs) (s .lows) width false address) where
+  pub to-a-fault : {eid : ℕ} → IsFault t → eid ≡ translationEid t → Fault eid ≡ readFrom width s address
+  unfolding readFrom
+  to-a-fault h k = ap Fault k ∙ read-fault width (s .memory) t h ∙ ap (readThrough width (s .memory)) e
+
+  pub to-a-load : {x : ℕ} {l : Loaded} {r : Read} → t ≡ Physical x → l ≡ loadOf width (s .memory) x → r ≡ answered l → r ≡ readFrom width s address
+  unfolding readFrom
+  to-a-load f g h = h ∙ ap answered g ∙ sym (ap (readThrough width (s .memory)) (sym e ∙ f))

@@ -1,0 +1,25 @@
+-- Reading through the translation (manual, 3.2 and 3.5).
+use mathlib.Core.Bool.{false}
+use Prim.Native.Nat.{ℕ}
+use Rattle.translation.specs.Translation.{translated, resolved}
+use Rattle.translation.specs.declared.Translation.{Translation}
+use Rattle.memory.specs.Map.{Memory}
+use Rattle.memory.specs.Access.{loadOf, loadedEid}
+use Rattle.memory.specs.declared.Loaded.{Loaded}
+use Rattle.memory.specs.declared.Loaded.the-variants as loaded
+use Rattle.instructions.specs.Operands.{Surroundings}
+use Rattle.access.specs.declared.Read.{Read}
+use Rattle.access.specs.declared.Read.the-variants.{Value, Fault}
+
+-- a value, or the fault of the translation or the bus timeout (16)
+
+abbrev pub answered : Loaded → Read
+answered (loaded.Value v) = Value v
+answered loaded.Timeout = Fault (loadedEid loaded.Timeout)
+
+abbrev pub readThrough : ℕ → Memory → Translation → Read
+readThrough width m t = resolved (λ address. answered (loadOf width m address)) Fault t
+
+-- the byte, half-word or word at a virtual address
+unfoldable pub readFrom : ℕ → Surroundings → ℕ → Read
+readFrom width s address = readThrough width (s .memory) (translated (s .psw) (s .highs) (s .lows) width false address)

@@ -1,2 +1,0 @@
--- The laws of `arithmetic`.
-pub mod Arms

@@ -1,0 +1,2 @@
+-- The laws of `belt_step`.
+pub mod LineLaws

@@ -1,0 +1,2 @@
+-- The definitions of `belt_step`.
+pub mod Line

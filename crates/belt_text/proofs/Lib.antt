@@ -1,0 +1,3 @@
+-- The laws of `belt_text`.
+pub mod LineLaws
+pub mod TextLaws

@@ -1,0 +1,3 @@
+-- The definitions of `belt_text`, in the order to read them.
+pub mod Line
+pub mod Text

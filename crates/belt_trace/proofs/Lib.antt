@@ -1,0 +1,2 @@
+-- The laws of `belt_trace`.
+pub mod Lines

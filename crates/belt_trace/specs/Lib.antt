@@ -1,0 +1,2 @@
+-- The definitions of `belt_trace`.
+pub mod Trace

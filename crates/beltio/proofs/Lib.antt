@@ -1,2 +1,0 @@
--- The laws of `beltio`.
-pub mod Lengths

@@ -1,2 +1,0 @@
--- The laws of `beltline`.
-pub mod TextLaws

@@ -1,2 +1,0 @@
--- The definitions of `beltline`.
-pub mod Text

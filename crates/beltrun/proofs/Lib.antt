@@ -1,0 +1,2 @@
+-- The laws of `beltrun`.
+pub mod Lengths

@@ -1,2 +1,0 @@
--- The laws of `beltstep`.
-pub mod LineLaws

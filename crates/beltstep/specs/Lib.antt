@@ -1,2 +1,0 @@
--- The definitions of `beltstep`.
-pub mod Line

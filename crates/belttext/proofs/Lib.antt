@@ -1,2 +1,0 @@
--- The laws of `belttext`.
-pub mod TextLaws

@@ -1,2 +1,0 @@
--- The definitions of `belttext`.
-pub mod Text

@@ -1,2 +1,0 @@
--- The definitions of `belttrace`.
-pub mod Trace

@@ -1,2 +1,0 @@
--- The laws of `branches`.
-pub mod Targets

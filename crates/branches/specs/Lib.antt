@@ -1,2 +1,0 @@
--- The definitions of `branches`.
-pub mod Branches

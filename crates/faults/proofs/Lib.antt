@@ -1,2 +1,0 @@
--- The laws of `faults`.
-pub mod Faulty

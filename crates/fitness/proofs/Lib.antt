@@ -1,2 +1,0 @@
--- The laws of `fitness`.
-pub mod Tests

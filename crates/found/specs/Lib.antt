@@ -1,2 +1,0 @@
--- The definitions of `found`.
-pub mod Found

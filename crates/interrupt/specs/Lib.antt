@@ -1,2 +1,0 @@
--- The definitions of `interrupt`.
-pub mod Interrupt

@@ -1,2 +1,0 @@
--- The definitions of `kept`.
-pub mod Kept

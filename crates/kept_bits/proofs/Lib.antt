@@ -1,0 +1,3 @@
+-- The laws of `kept_bits`.
+pub mod KeptLaws
+pub mod OnlyLaws

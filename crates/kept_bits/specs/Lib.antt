@@ -1,0 +1,3 @@
+-- The definitions of `kept_bits`.
+pub mod Kept
+pub mod Code

@@ -1,2 +1,0 @@
--- The definitions of `lookup`.
-pub mod Lookup

@@ -1,2 +1,0 @@
--- The laws of `outcomes`.
-pub mod TestLaws

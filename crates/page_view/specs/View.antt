@@ -1,0 +1,57 @@
+-- The page view: where its part of RAM lies, and what it refuses (document 01, "Runs and views" and "Refused calls").
+use mathlib.Core.Bool.{Bool, false, cond}
+use mathlib.Core.List.{List, [], _∷_}
+use Prim.Native.Nat.{ℕ, _*_}
+use lib.Dec.{leb, ltb, eqb}
+use lib.ListN.{length}
+use Rattle.words.specs.Logic.{both}
+use Rattle.translation.specs.Translation.{translated, resolved}
+use Rattle.processor.specs.declared.Processor.{Processor}
+use Rattle.translation.specs.declared.Translation.{Translation}
+use Rattle.refusals.specs.Refusal.{Test, firstFailed, ramTest, fitTest, frameTest}
+
+-- ---- the lookup: "a Kernel Mode load of its first byte"
+
+-- a PSW of Kernel Mode: U_C is 0, and the translation reads no other bit
+abbrev pub kernelMode : ℕ
+kernelMode = 0
+
+-- the physical address of the page's first byte, or the fault
+unfoldable pub lookedUp : Processor → ℕ → Translation
+lookedUp p page = translated kernelMode (p .tlbhigh) (p .tlblow) 1 false (page * 4096)
+
+-- the address lies in RAM, n bytes from 0. So it does not where nothing answers, the bus timeout (16)
+abbrev pub inRam : ℕ → Translation → Bool
+inRam n t = resolved (λ address. ltb address n) (λ eid. false) t
+
+-- the offset in RAM, which begins at 0; of a fault none is used
+abbrev pub offsetOf : Translation → ℕ
+offsetOf t = resolved (λ address. address) (λ eid. 0) t
+
+-- a RAM frame is behind the page: cause 8 is that the number exceeds FFFFF, or the load would fault, or its address is not RAM
+unfoldable pub hasFrame : ℕ → Processor → ℕ → Bool
+hasFrame n p page = both (leb page 0xFFFFF) (inRam n (lookedUp p page))
+
+-- ---- the answer
+
+abbrev pub viewTests : List ℕ → Processor → ℕ → List Test
+viewTests ram p page = ramTest (length ram) ∷ fitTest p ∷ frameTest (hasFrame (length ram) p page) ∷ []
+
+unfoldable pub viewRefusal : List ℕ → Processor → ℕ → ℕ
+viewRefusal ram p page = firstFailed (viewTests ram p page)
+
+-- the refusal or 0, and where the part begins in RAM and how long it is
+pub record Viewed : Type 0 where
+  pub refusal : ℕ
+  pub offset : ℕ
+  pub size : ℕ
+
+abbrev pub viewed : ℕ → ℕ → ℕ → Viewed
+viewed refusal offset size = record { refusal = refusal; offset = offset; size = size }
+
+-- the answer for a frame; where refused, offset and length are 0
+abbrev pub viewedAt : ℕ → Translation → Viewed
+viewedAt refusal t = viewed refusal (cond (eqb refusal 0) (offsetOf t) 0) (cond (eqb refusal 0) 4096 0)
+
+unfoldable pub viewOf : List ℕ → Processor → ℕ → Viewed
+viewOf ram p page = viewedAt (viewRefusal ram p page) (lookedUp p page)

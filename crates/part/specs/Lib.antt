@@ -1,2 +1,0 @@
--- The definitions of `part`.
-pub mod Part

@@ -1,2 +1,0 @@
--- The laws of `reads`.
-pub mod Faults

@@ -1,2 +1,0 @@
--- The definitions of `reads`.
-pub mod Reads

@@ -1,0 +1,3 @@
+-- The laws of `record_calls`.
+pub mod RecordLaws
+pub mod ViewLaws

@@ -1,0 +1,36 @@
+-- What the exported calls on records do: reset, read and write (document 01, "Refused calls"). The machine travels as its record.
+use mathlib.Core.Bool.{cond}
+use mathlib.Core.List.{List, [], _∷_}
+use Prim.Native.Nat.{ℕ}
+use lib.Dec.{eqb}
+use Rattle.processor.specs.State.{atReset}
+use Rattle.record_layout.specs.Record.{recordOf, kindsInPlace, processorOf}
+use Rattle.refusals.specs.Refusal.{Test, firstFailed, kindsTest, fitTest}
+use Rattle.record.specs.Calls.{whole, processorRead}
+
+-- a buffer after a call that writes it: a refused one leaves it as it was
+abbrev pub unlessRefused : ℕ → List ℕ → List ℕ → List ℕ
+unlessRefused refusal written buffer = cond (eqb refusal 0) written buffer
+
+-- ---- reset: the record of the reset machine
+
+abbrev pub resetTests : List ℕ → List Test
+resetTests buffer = whole buffer ∷ []
+
+unfoldable pub resetRefusal : List ℕ → ℕ
+resetRefusal buffer = firstFailed (resetTests buffer)
+
+unfoldable pub resetBuffer : List ℕ → List ℕ
+resetBuffer buffer = unlessRefused (resetRefusal buffer) (recordOf atReset) buffer
+
+-- ---- reading a record into a machine's buffer, and writing a machine into a record's
+
+-- both lengths, and then what is read
+abbrev pub copyTests : List ℕ → List ℕ → List Test
+copyTests from buffer = whole from ∷ whole buffer ∷ kindsTest (kindsInPlace from) ∷ fitTest (processorOf from) ∷ []
+
+unfoldable pub copyRefusal : List ℕ → List ℕ → ℕ
+copyRefusal from buffer = firstFailed (copyTests from buffer)
+
+unfoldable pub copyBuffer : List ℕ → List ℕ → List ℕ
+copyBuffer from buffer = unlessRefused (copyRefusal from buffer) (recordOf (processorRead from)) buffer

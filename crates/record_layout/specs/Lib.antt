@@ -1,0 +1,3 @@
+-- The definitions of `record_layout`, in the order to read them.
+pub mod Layout
+pub mod Record

@@ -1,2 +1,0 @@
--- The laws of `recordcalls`.
-pub mod RecordLaws

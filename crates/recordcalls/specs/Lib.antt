@@ -1,2 +1,0 @@
--- The definitions of `recordcalls`.
-pub mod Records

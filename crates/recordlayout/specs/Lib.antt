@@ -1,3 +1,0 @@
--- The definitions of `recordlayout`, in the order to read them.
-pub mod Layout
-pub mod Record

@@ -1,2 +1,0 @@
--- The laws of `refusal`.
-pub mod Checks

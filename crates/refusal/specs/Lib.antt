@@ -1,2 +1,0 @@
--- The definitions of `refusal`.
-pub mod Refusal

@@ -1,0 +1,112 @@
+// The model's machine: started, stepped, and its steps counted.
+use crate::Counts;
+use crate::Progress;
+use crate::tally;
+use access::Read;
+use processor::Processor;
+ghost use mathlib.Core.Bool.{true, false};
+ghost use mathlib.Core.Path.{_≡_};
+ghost use lib.Dec.{eqb};
+ghost use Rattle.memory.specs.Lent.{lent};
+ghost use Rattle.machine.specs.Machine.{before, after};
+ghost use Rattle.record.specs.Calls.{readRefusal};
+ghost use Rattle.expected.specs.Expected.{expectedLent, startedIn};
+ghost use Rattle.replay.specs.Agreement.{machineAfter, stepAgrees};
+ghost use Rattle.replay.specs.Tally.{stepMade, judged};
+ghost use Rattle.replay.specs.Tallies.{opcodeAt, talliesLent, talliesLeft, tallied, stepTallied};
+ghost use Rattle.replay.specs.Replay.{machineLeft};
+
+// The model's machine becomes the expected one; where its record is refused, the reset machine.
+pub fn start(
+    counts: Counts,
+    ram: &mut [u8],
+    rom: &mut [u8],
+    belt: &mut [u8],
+    xrecord: &[u8],
+    xram: &[u8],
+    xrom: &[u8],
+    xbelt: &[u8],
+) -> Progress
+    ensures state { λ r. ⌜ machineLeft (r .processor) ram rom belt ≡ startedIn (lent ram rom belt) (expectedLent xrecord xram xrom xbelt) ⌝ }
+    ensures counts { λ r. ⌜ r .counts ≡ judged false (eqb (readRefusal (now (xrecord .entry))) 0) counts ⌝ }
+{
+    bytes::copy(ram, xram);
+    bytes::copy(rom, xrom);
+    bytes::copy(belt, xbelt);
+    let reading = record::read(xrecord);
+    let started = reading.processor;
+    Progress {
+        processor: started,
+        counts: counts.judge(false, reading.refusal == refusals::ACCEPTED),
+    }
+}
+
+// The opcode of the word at the PC, or 64.
+fn opcode_at(p: Processor, ram: &[u8], rom: &[u8], belt: &[u8]) -> u32
+    ensures { λ r. ⌜ r ≡ opcodeAt (before p ram rom belt) ⌝ }
+{
+    let highs = p.tlbhigh;
+    let lows = p.tlblow;
+    let fetched = access::read_word(p.psw, &highs, &lows, ram, rom, belt, p.pc);
+    match fetched {
+        Read::Value(word) => word / 0x400_0000,
+        Read::Fault(_) => 64,
+    }
+}
+
+// A step that completed by its opcode, another by its exception.
+fn count_step(opcodes: &mut [u32], exceptions: &mut [u32], opcode: u32, eid: u32)
+    ensures { λ _. ⌜ talliesLeft opcodes exceptions ≡ tallied (talliesLent opcodes exceptions) opcode eid ⌝ }
+{
+    if eid == Processor::NO_EXCEPTION {
+        tally::raise_at(opcodes, opcode);
+        return;
+    }
+    tally::raise_at(exceptions, eid);
+}
+
+// A step counted, and compared with the expected machine.
+pub fn step(
+    progress: Progress,
+    ram: &mut [u8],
+    rom: &[u8],
+    belt: &mut [u8],
+    lines: u32,
+    opcodes: &mut [u32],
+    exceptions: &mut [u32],
+    xrecord: &[u8],
+    xram: &[u8],
+    xrom: &[u8],
+    xbelt: &[u8],
+    wanted: u32,
+) -> Progress
+    ensures state { λ r. ⌜ after (r .processor) ram rom belt ≡ machineAfter (before (progress .processor) ram rom belt) lines ⌝ }
+    ensures counts { λ r. ⌜ r .counts ≡ judged true
+        (stepAgrees (expectedLent xrecord xram xrom xbelt) wanted (before (progress .processor) ram rom belt) lines) (stepMade (progress .counts)) ⌝ }
+    ensures tallies { λ r. ⌜ talliesLeft opcodes exceptions
+        ≡ stepTallied (talliesLent opcodes exceptions) (before (progress .processor) ram rom belt) lines ⌝ }
+{
+    let p = progress.processor;
+    let counts = progress.counts;
+    let opcode = opcode_at(p, &ram[..], rom, &belt[..]);
+    let stepped = run_loop::step(p, ram, rom, belt, lines);
+    let eid = stepped.eid;
+    let next = stepped.processor;
+    count_step(opcodes, exceptions, opcode, eid);
+    let agrees = expected::agree(
+        next,
+        &ram[..],
+        rom,
+        &belt[..],
+        eid,
+        xrecord,
+        xram,
+        xrom,
+        xbelt,
+        wanted,
+    );
+    Progress {
+        processor: next,
+        counts: counts.make_step().judge(true, agrees),
+    }
+}

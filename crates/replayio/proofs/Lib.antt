@@ -1,3 +1,0 @@
--- The laws of `replayio`.
-pub mod Ended
-pub mod Rows

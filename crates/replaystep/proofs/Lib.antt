@@ -1,2 +1,0 @@
--- The laws of `replaystep`.
-pub mod StepLaws

@@ -1,3 +1,0 @@
--- The definitions of `replaystep`.
-pub mod Tallies
-pub mod Agreement

@@ -1,0 +1,106 @@
+-- The exported runs, by the tests of the code.
+use mathlib.Core.Path.{_≡_, refl, ap, sym, subst, _∙_}
+use mathlib.Core.Bool.{Bool, true}
+use mathlib.Core.List.{List, [], _∷_, _++_}
+use Prim.Native.Nat.{ℕ, _≤_, _<_}
+use native.Mathlib.Omega.{arith}
+use lib.ListN.{length, getD}
+use borrow.Author.Tests.{eq-eqb, ne-eqb, eqb-true, leb-true}
+use Rattle.words.specs.Lists.{Every}
+use Rattle.memory.specs.Map.{Memory}
+use Rattle.processor.specs.declared.Processor.{Processor}
+use Rattle.processor.proofs.FitLaws.{Fit, fit-means}
+use Rattle.record_layout.specs.Record.{recordOf, processorOf}
+use Rattle.record.specs.Calls.{recordTests, readRefusal, processorRead}
+use Rattle.record.proofs.Answers.{read-accepted}
+use Rattle.record.proofs.ReadWritten.{read-written}
+use Rattle.machine.specs.Machine.{Machine}
+use Rattle.refusals.specs.Refusal.{Test, firstFailed, memoryTests, stepsTest}
+use Rattle.refusals.proofs.FirstFailed.{joined, all-pass}
+use Rattle.run_loop.specs.Run.{Request, request, answer, Outcome, runFrom}
+use Rattle.run_loop.proofs.Loop.{no-step}
+use Rattle.run_loop.proofs.Kept.{run-fit}
+use Rattle.run_calls.specs.Runs.{callTests, callRefusal, Called, called, machineIn, recorded, callOf}
+use Rattle.run_calls.specs.Code.{firstOf}
+
+-- the numbers of a refused call
+pub answers : (s : List ℕ) (m : Memory) {x y z r : ℕ} → (x ≡ r) × (y ≡ 0) × (z ≡ 32) → called s m x y z ≡ called s m r 0 32
+answers s m e = rw (e .0, e .1, e .2)
+
+-- ---- an accepted call passes every test
+
+module _ (s : List ℕ) (m : Memory) (wanted : ℕ) (accepted : callRefusal s m wanted ≡ 0) where
+  passed : Every (λ t. t .passes ≡ true) (callTests s m wanted)
+  unfolding callRefusal
+  passed = all-pass (callTests s m wanted) refl accepted
+
+  size : length s ≡ 414
+  size = eqb-true _ _ (passed .1 .1 .1 .0)
+
+  within : wanted ≤ 1000000
+  within = leb-true wanted 1000000 (passed .1 .1 .1 .1 .1 .1 .0)
+
+  as-read : (0 ≡ readRefusal s) × (processorOf s ≡ processorRead s)
+  as-read = read-accepted s size (passed .1 .1 .1 .1 .0) (passed .1 .1 .1 .1 .1 .0)
+
+  read-fits : Fit (processorOf s)
+  read-fits = fit-means (processorOf s) (passed .1 .1 .1 .1 .1 .0)
+
+-- ---- the tests of the code: of the lengths, of the record and of the steps, and the first that refuses
+
+module _ (s : List ℕ) (m : Memory) (q : Request) {l r t number : ℕ}
+    (lengths : l ≡ firstFailed (memoryTests m)) (read : r ≡ readRefusal s) (steps : t ≡ firstFailed (stepsTest (q .wanted) ∷ []))
+    (first : number ≡ firstOf l (firstOf r t)) where
+  is-number : number ≡ callRefusal s m (q .wanted)
+  unfolding firstOf callRefusal readRefusal
+  is-number =
+      let last : List Test = stepsTest (q .wanted) ∷ [] in
+      first ∙ rw (lengths, read, steps)
+      (sym (joined (memoryTests m) (recordTests s ++ last) refl ∙ ap (firstOf (firstFailed (memoryTests m))) (joined (recordTests s) last refl)))
+
+  pub refused-call : (number ≡ 0 → ⊥) → called s m number 0 32 ≡ callOf q s m
+  unfolding callOf
+  refused-call h = rw (← is-number) (simp (ne-eqb number 0 h))
+
+  module _ (accepted : number ≡ 0) where
+    none : callRefusal s m (q .wanted) ≡ 0
+    none = sym is-number ∙ accepted
+
+    pub record-size : length s ≡ 414
+    record-size = size s m (q .wanted) none
+
+    pub steps-within : q .wanted ≤ 1000000
+    steps-within = within s m (q .wanted) none
+
+    module _ {p : Processor} (f : p ≡ processorRead s) {o : Outcome} (g : o ≡ runFrom q (q .wanted) 0 (record { processor = p; memory = m })) where
+      machine-read : p ≡ processorOf s
+      machine-read = f ∙ sym (as-read s m (q .wanted) none .1)
+
+      -- the outcome, with the buffer as it was written
+      pub call-written : {b : List ℕ} → b ≡ recordOf (o .machine .processor)
+          → _≡_ {A = Called} (record { buffer = b; memory = o .machine .memory; answer = o .answer }) (callOf q s m)
+      unfolding callOf
+      call-written h =
+          let same : o ≡ runFrom q (q .wanted) 0 (machineIn s m) =
+          g ∙ ap (λ (p : Processor). runFrom q (q .wanted) 0 (record { processor = p; memory = m })) machine-read in
+          (λ i. record { buffer = h i; memory = o .machine .memory; answer = o .answer }) ∙ rw none (ap recorded same)
+
+      -- the machine after it can be written
+      pub run-index : o .machine .processor .replacement < 256
+      run-index =
+          let start : Fit p = subst Fit (sym machine-read) (read-fits s m (q .wanted) none) in
+          let end = run-fit q (q .wanted) 0 (record { processor = p; memory = m }) start .upto in
+          omega (arith, end, ap (λ (q : Outcome). q .machine .processor .replacement) g)
+
+-- ---- zero steps change nothing
+
+module _ (kind : Bool) (s : List ℕ) (m : Memory) (lines : ℕ) where
+  abbrev q : Request
+  q = request kind 0 lines
+
+  pub no-steps : ((j : ℕ) → getD s j 0 < 256) → callRefusal s m 0 ≡ 0 → callOf q s m ≡ called s m 0 0 32
+  unfolding callOf
+  no-steps bytes e =
+      let same : recordOf (processorOf s) ≡ s =
+      ap recordOf (as-read s m 0 e .1) ∙ read-written s bytes (sym (as-read s m 0 e .0)) in
+      rw e (ap recorded (no-step q 0 (machineIn s m)) ∙ (λ i. record { buffer = same i; memory = m; answer = answer 0 0 32 }))

@@ -1,0 +1,2 @@
+-- The laws of `run_calls`.
+pub mod CallLaws

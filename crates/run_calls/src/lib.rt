@@ -1,0 +1,75 @@
+// A run of either kind, with the machine as its record.
+use processor::Processor;
+ghost use mathlib.Core.Path.{_≡_};
+ghost use Rattle.memory.specs.Lent.{lent, left};
+ghost use Rattle.run_calls.specs.Runs.{called, callOf};
+ghost use Rattle.run_calls.specs.Code.{firstOf};
+ghost use Rattle.run_loop.specs.Run.{request};
+
+// struct eco32_answer
+#[repr(C)]
+pub struct Answer {
+    pub refusal: u32,
+    pub steps: u32,
+    pub eid: u32,
+}
+
+fn refused(number: u32) -> Answer
+    ensures { λ r. ⌜ (r .refusal ≡ number) × (r .steps ≡ 0) × (r .eid ≡ 32) ⌝ }
+{
+    Answer {
+        refusal: number,
+        steps: 0,
+        eid: Processor::NO_EXCEPTION,
+    }
+}
+
+// The first of three refusals that is not 0, or 0.
+fn first_of(a: u32, b: u32, c: u32) -> u32
+    ensures { λ r. ⌜ r ≡ firstOf a (firstOf b c) ⌝ }
+{
+    if a != refusals::ACCEPTED {
+        return a;
+    }
+    if b != refusals::ACCEPTED {
+        return b;
+    }
+    c
+}
+
+// A run of either kind: causes 1, 2 and 3, then 4, 5 and 6 of the record, then 7.
+pub fn call(
+    machine: &mut [u8],
+    ram: &mut [u8],
+    rom: &[u8],
+    belt: &mut [u8],
+    wanted: u64,
+    lines: u16,
+    kind: bool,
+) -> Answer
+    ensures { λ r. ⌜ called (now (machine .exit)) (left ram rom belt) (r .refusal) (r .steps) (r .eid)
+        ≡ callOf (request kind wanted lines) (now (machine .entry)) (lent ram rom belt) ⌝ }
+{
+    let lengths = refusals::of_lengths(ram.len(), rom.len(), belt.len());
+    let reading = record::read(&machine[..]);
+    let steps = refusals::of_steps(wanted);
+    let number = first_of(lengths, reading.refusal, steps);
+    if number != refusals::ACCEPTED {
+        return refused(number);
+    }
+    let ran = run_loop::advance(
+        reading.processor,
+        ram,
+        rom,
+        belt,
+        wanted as u32,
+        lines as u32,
+        kind,
+    );
+    record_layout::put(ran.processor, machine);
+    Answer {
+        refusal: ran.refusal,
+        steps: ran.steps,
+        eid: ran.eid,
+    }
+}

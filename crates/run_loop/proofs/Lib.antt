@@ -1,0 +1,5 @@
+-- The laws of `run_loop`, in the order to read them.
+pub mod Loop
+mod Turn
+pub mod Kept
+mod OneStep

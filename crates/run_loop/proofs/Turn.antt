@@ -1,0 +1,108 @@
+-- One turn of the loop, by the action that the look named.
+use mathlib.Core.Path.{_≡_, refl, ap, sym, subst, _∙_}
+use mathlib.Core.Bool.{Bool, true, false, cond}
+use mathlib.Core.List.{List, [], _∷_}
+use Prim.Native.Nat.{ℕ, zero, suc, _+_, _-_, _%_, _<_}
+use native.Mathlib.Omega.{arith}
+use lib.Dec.{leb}
+use lib.ListN.{length, getD, set}
+use borrow.Author.Tests.{lt-leb, eq-eqb, ne-eqb}
+use Rattle.tlb.specs.Found.{Serves}
+use Rattle.tlb.specs.declared.Found.{Found}
+use Rattle.instructions.specs.Action.{Action, Exception}
+use Rattle.processor.specs.declared.Processor.{Processor}
+use Rattle.processor.specs.State.{withRegisters, withPc}
+use Rattle.processor.specs.Exception.{entered}
+use Rattle.processor.specs.Register.{put, written, jumped}
+use Rattle.tlb.specs.Lookup.{pageOf, lookup}
+use Rattle.machine.specs.Machine.{Machine}
+use Rattle.look.specs.Look.{lookFrom}
+use Rattle.step.specs.Step.{surroundingsOf, look, done, eidOf, stepOf}
+use Rattle.step.proofs.Looks.{step-done, step-eid}
+use Rattle.step.proofs.Named.{named-below}
+use Rattle.run_loop.specs.Run.{Request, outcome, ends, runFrom}
+use Rattle.run_loop.proofs.Loop.{exception-ends, run-more, run-stop}
+
+-- ---- the processor
+
+-- a write to register 0 is a jump
+pub zero-written : (p : Processor) (n v next : ℕ) → n % 32 ≡ 0 → jumped p next ≡ written p n v next
+unfolding written jumped put
+zero-written p n v next e = simp (eq-eqb (n % 32) 0 e)
+
+-- a place written, and written once more with what it then holds
+set-again : (l : List ℕ) (i v : ℕ) → set l i (getD (set l i v) i 0) ≡ set l i v
+set-again [] i v = refl
+set-again (x ∷ l) zero v = refl
+set-again (x ∷ l) (suc i) v = ap (λ (k : List ℕ). x ∷ k) (set-again l i v)
+
+-- the same for a register other than 0
+put-again : (l : List ℕ) (n v value : ℕ) → (n % 32 ≡ 0 → ⊥) → value ≡ getD (put l n v) (n % 32) 0 → set l (n % 32) value ≡ put l n v
+unfolding put
+put-again l n v value other e = rw (e, ne-eqb (n % 32) 0 other) (set-again l (n % 32) v)
+
+-- a processor that takes over the register and the PC of a write to it is the one that the write hands back
+pub taken : (p : Processor) (n v next value pc : ℕ) → (n % 32 ≡ 0 → ⊥)
+    → value ≡ getD (written p n v next .registers) (n % 32) 0 → pc ≡ written p n v next .pc
+    → withPc (withRegisters p (set (p .registers) (n % 32) value)) pc ≡ written p n v next
+unfolding written
+taken p n v next value pc other e f = λ i. withPc (withRegisters p (put-again (p .registers) n v value other e i)) (f i)
+
+-- an entry that was found stays where it is: a jump and exception entry leave the TLB
+module _ (p : Processor) (i page : ℕ) (f : i ≡ lookup (p .tlbhigh) page) (q : Processor) where
+  pub jump-found : (next : ℕ) → q ≡ jumped p next → i ≡ lookup (q .tlbhigh) page
+  unfolding jumped
+  jump-found next e = f ∙ sym (ap (λ (r : Processor). lookup (r .tlbhigh) page) e)
+
+  pub enter-found : (eid address : ℕ) → q ≡ entered p eid address → i ≡ lookup (q .tlbhigh) page
+  unfolding entered
+  enter-found eid address e = f ∙ sym (ap (λ (r : Processor). lookup (r .tlbhigh) page) e)
+
+-- the entry that was followed to serves the address
+pub followed-serves : (highs : List ℕ) (last page i address : ℕ) → page ≡ cond (leb 0xC0000000 address) last (pageOf address)
+    → i ≡ lookup highs page → Serves highs i address
+followed-serves highs last page i address e f = λ below. f ∙ ap (lookup highs) (e ∙ simp (lt-leb 0xC0000000 address below))
+
+-- ---- the run
+
+-- what holds before each turn: of the machine that the run began with, of the one that it has come to, and of the entry found last
+pub record Going (q : Request) (began m : Machine) (last : Found) (steps eid : ℕ) : Type 0 where
+  pub ram : length (m .memory .ram) ≡ length (began .memory .ram)
+  pub belt : length (m .memory .belt) ≡ length (began .memory .belt)
+  pub none : eid ≡ 32
+  pub found : last .index ≡ lookup (m .processor .tlbhigh) (last .page)
+  pub rest : runFrom q (q .wanted) 0 began ≡ runFrom q (q .wanted - steps) steps m
+
+module _ {q : Request} {began m : Machine} {last : Found} {steps eid : ℕ} (g : Going q began m last steps eid) (more : steps < q .wanted)
+    {a b : Action} (e : b ≡ lookFrom (surroundingsOf m) (m .processor .registers) (m .processor .pc) (q .lines)) (told : b ≡ a)
+    {n : Machine} (after : n ≡ done m a) where
+  looked : look m (q .lines) ≡ a
+  unfolding look
+  looked = sym e ∙ told
+
+  stepped-to : n ≡ stepOf m (q .lines) .machine
+  stepped-to = after ∙ sym (step-done m (q .lines) a looked)
+
+  named : eidOf a ≡ stepOf m (q .lines) .event .eid
+  named = sym (step-eid m (q .lines) a looked)
+
+  -- the run goes on
+  pub again : ends (q .kind) (eidOf a) ≡ false
+      → length (n .memory .ram) ≡ length (m .memory .ram) → length (n .memory .belt) ≡ length (m .memory .belt)
+      → {last₁ : Found} → last₁ .index ≡ lookup (n .processor .tlbhigh) (last₁ .page) → Going q began n last₁ (steps + 1) eid
+  again on ram belt found =
+      record {
+        ram = ram ∙ g .ram;
+        belt = belt ∙ g .belt;
+        none = g .none;
+        found = found;
+        rest = g .rest ∙ run-more q steps m n (eidOf a) stepped-to named more on;
+      }
+
+  -- the run ends: an exception that was named has a number below 32
+  pub stops : (number address : ℕ) → a ≡ Exception number address → q .kind ≡ true
+      → outcome n 0 (steps + 1) (eidOf a) ≡ runFrom q (q .wanted) 0 began
+  stops number address f on =
+      let below : number < 32 = omega (arith, named-below m (q .lines) number address (looked ∙ f)) in
+      sym (g .rest ∙ run-stop q steps m n (eidOf a) stepped-to named more
+      (exception-ends (q .kind) (eidOf a) on (subst (λ (b : Action). eidOf b < 32) (sym f) below)))

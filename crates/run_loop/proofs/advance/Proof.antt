@@ -1,0 +1,154 @@
+-- `run_loop::advance` meets its contract, by the laws of Loop and Turn.
+use mathlib.Core.Path.{_≡_, refl, ap, sym, _∙_}
+use Prim.Native.Nat.{_-_, _≤_}
+use native.Mathlib.Omega.{arith}
+use borrow.Author.Needs.{needs}
+use Rattle.processor.specs.Register.{jumped}
+use Rattle.machine.specs.Machine.{machine}
+use Rattle.step.proofs.Looks.{joined}
+use Rattle.run_loop.proofs.Loop.{plain-goes-on, none-goes-on, run-end, run-start, one-less}
+use Rattle.run_loop.proofs.Turn.{zero-written, taken, jump-found, enter-found, followed-serves, Going, again, stops}
+use Rattle.instructions.specs.Action.{actionOf}
+use Rattle.instructions.proofs.Coding.{is-system}
+use Rattle.actions.specs.Actions.{processorAfter}
+use Rattle.run_loop.specs.Run.{request}
+use Rattle.run_loop.proofs.advance.Statement.{statement}
+use Rattle.run_loop.proofs.advance.Tie as tie
+
+abbrev Inv-loop : tie.InvT-loop
+Inv-loop ram₀ rom belt₀ wanted lines kind state₀ last₀ steps₀ eid₀ ram belt state last steps eid =
+    Going (request kind wanted lines) (machine state₀ ram₀ rom belt₀) (machine state ram rom belt) last steps eid
+
+abbrev μ-loop : tie.MeasureT-loop
+μ-loop ram₀ rom belt₀ wanted lines kind state₀ last₀ steps₀ eid₀ ram belt state last steps eid =
+    wanted - steps
+
+loop-holds : tie.Need-loop-holds Inv-loop μ-loop
+loop-holds c = record { ram = refl; belt = refl; none = refl; found = c .first .ensures .1; rest = run-start _ 0 _ }
+
+follow-requires : tie.Need-follow-requires Inv-loop μ-loop
+follow-requires c κs = c .before .before .before .loop .inv .found
+
+look-at-requires : tie.Need-look-at-requires Inv-loop μ-loop
+look-at-requires c κs =
+    let at-follow = c .before .before .before .before .before .before in
+    followed-serves _ _ _ _ _ (at-follow .follow .ensures .0) (at-follow .follow .ensures .1)
+
+loop-less : tie.Need-loop-less Inv-loop μ-loop
+loop-less c =
+    let at-loop-test = c .before .before .before .before .before .before .before .before .before .before .before .before .before .before .before in
+    one-less _ _ (at-loop-test .loop-test .taken)
+
+loop-again : tie.Need-loop-again Inv-loop μ-loop
+loop-again c =
+    let at-action = c .before .before .before in
+    let at-look-at = at-action .before .before in
+    let at-follow = at-look-at .before .before .before .before .before .before .before in
+    let at-loop-test = at-follow .before .before .before in
+    let at-loop = at-loop-test .before in
+    again (at-loop .loop .inv) (at-loop-test .loop-test .taken) (at-look-at .look-at .ensures) (ap actionOf (at-action .action .given .1))
+    (joined (c .jump .ensures ∙ zero-written _ _ _ _ (c .before .if1 .taken)) refl) (none-goes-on _) refl refl
+    (jump-found _ _ _ (at-follow .follow .ensures .1) _ _ (c .jump .ensures))
+
+loop-less-2 : tie.Need-loop-less-2 Inv-loop μ-loop
+loop-less-2 c =
+    let at-loop-test = c .before .before .before .before .before .before .before .before .before .before .before .before .before .before .before in
+    one-less _ _ (at-loop-test .loop-test .taken)
+
+loop-again-2 : tie.Need-loop-again-2 Inv-loop μ-loop
+loop-again-2 c =
+    let at-action = c .before .before .before in
+    let at-look-at = at-action .before .before in
+    let at-follow = at-look-at .before .before .before .before .before .before .before in
+    let at-loop-test = at-follow .before .before .before in
+    let at-loop = at-loop-test .before in
+    again (at-loop .loop .inv) (at-loop-test .loop-test .taken) (at-look-at .look-at .ensures) (ap actionOf (at-action .action .given .1))
+    (joined (taken _ _ _ _ _ _ (c .before .if1 .left) (c .write .ensures .0) (c .write .ensures .1)) refl) (none-goes-on _) refl refl
+    (at-follow .follow .ensures .1)
+
+loop-less-3 : tie.Need-loop-less-3 Inv-loop μ-loop
+loop-less-3 c =
+    let at-store = c .before .before .before .before .before .before in
+    let at-follow = at-store .before .before .before .before .before .before .before .before .before .before .before .before .before in
+    let at-loop-test = at-follow .before .before .before in
+    one-less _ _ (at-loop-test .loop-test .taken)
+
+loop-again-3 : tie.Need-loop-again-3 Inv-loop μ-loop
+loop-again-3 c =
+    let at-store = c .before .before .before .before .before .before in
+    let at-action2 = at-store .before .before .before .before in
+    let at-look-at = at-action2 .before .before in
+    let at-follow = at-look-at .before .before .before .before .before .before .before in
+    let at-loop-test = at-follow .before .before .before in
+    let at-loop = at-loop-test .before in
+    again (at-loop .loop .inv) (at-loop-test .loop-test .taken) (at-look-at .look-at .ensures) (ap actionOf (at-action2 .action2 .given .1))
+    (joined (c .jump2 .ensures ∙ ap (jumped _) (c .before .add .ensures)) (at-store .store .ensures)) (none-goes-on _) (at-store .store .kept .0)
+    (at-store .store .kept .1 .1 .0) (jump-found _ _ _ (at-follow .follow .ensures .1) _ _ (c .jump2 .ensures))
+
+loop-less-4 : tie.Need-loop-less-4 Inv-loop μ-loop
+loop-less-4 c =
+    let at-loop-test = c .before .before .before .before .before .before .before .before .before .before .before .before .before .before .before in
+    one-less _ _ (at-loop-test .loop-test .taken)
+
+loop-again-4 : tie.Need-loop-again-4 Inv-loop μ-loop
+loop-again-4 c =
+    let at-done = c .before .before .before in
+    let at-match = at-done .before in
+    let at-look-at = at-match .before in
+    let at-loop-test = at-look-at .before .before .before .before .before .before .before .before .before .before in
+    let at-loop = at-loop-test .before in
+    let (i, told) = is-system (at-look-at .look-at .result) (at-match .match .keys3) in
+    again (at-loop .loop .inv) (at-loop-test .loop-test .taken) (at-look-at .look-at .ensures) told
+    (joined (at-done .done .ensures ∙ ap (processorAfter _) told) refl) (none-goes-on _) refl refl (c .first2 .ensures .1)
+
+loop-less-5 : tie.Need-loop-less-5 Inv-loop μ-loop
+loop-less-5 c =
+    let at-loop-test = c .before .before .before .before .before .before .before .before .before .before .before .before .before .before .before in
+    one-less _ _ (at-loop-test .loop-test .taken)
+
+loop-again-5 : tie.Need-loop-again-5 Inv-loop μ-loop
+loop-again-5 c =
+    let at-action3 = c .before .before .before in
+    let at-look-at = at-action3 .before .before in
+    let at-follow = at-look-at .before .before .before .before .before .before .before in
+    let at-loop-test = at-follow .before .before .before in
+    let at-loop = at-loop-test .before in
+    again (at-loop .loop .inv) (at-loop-test .loop-test .taken) (at-look-at .look-at .ensures) (ap actionOf (at-action3 .action3 .given .1))
+    (joined (c .before .enter .ensures) refl) (plain-goes-on _ _ (c .if2 .left)) refl refl
+    (enter-found _ _ _ (at-follow .follow .ensures .1) _ _ _ (c .before .enter .ensures))
+
+same-length : tie.Need-same-length Inv-loop μ-loop
+same-length c = c .before .loop .inv .ram
+
+same-length-2 : tie.Need-same-length-2 Inv-loop μ-loop
+same-length-2 c = c .before .loop .inv .belt
+
+returns : tie.Need-returns Inv-loop μ-loop
+returns c = sym (c .before .loop .inv .rest ∙ run-end _ _ _ _ (c .before .loop .inv .none) (c .loop-test .left))
+
+same-length-3 : tie.Need-same-length-3 Inv-loop μ-loop
+same-length-3 c =
+    let at-loop = c .before .before .before .before .before .before .before .before .before .before .before .before .before .before .before .before in
+    at-loop .loop .inv .ram
+
+same-length-4 : tie.Need-same-length-4 Inv-loop μ-loop
+same-length-4 c =
+    let at-loop = c .before .before .before .before .before .before .before .before .before .before .before .before .before .before .before .before in
+    at-loop .loop .inv .belt
+
+returns-2 : tie.Need-returns-2 Inv-loop μ-loop
+returns-2 c =
+    let at-action3 = c .before .before .before in
+    let at-look-at = at-action3 .before .before in
+    let at-loop-test = at-look-at .before .before .before .before .before .before .before .before .before .before in
+    let at-loop = at-loop-test .before in
+    stops (at-loop .loop .inv) (at-loop-test .loop-test .taken) (at-look-at .look-at .ensures) (ap actionOf (at-action3 .action3 .given .1))
+    (joined (c .before .enter .ensures) refl) _ _ refl (c .if2 .taken)
+
+pub advance-spec : {M : Type 1} → statement M
+advance-spec =
+    tie.close
+    (tie.spec Inv-loop μ-loop (λ c κs. search needs) loop-holds follow-requires look-at-requires (λ c. omega arith) (λ c. search needs) (λ c. search needs)
+    (λ c κs. search needs) loop-less loop-again (λ c κs. search needs) (λ c. search needs) (λ c. search needs) loop-less-2 loop-again-2 (λ c. search needs)
+    (λ c κs. search needs) (λ c κs. search needs) (λ c κs. search needs) loop-less-3 loop-again-3 (λ c κs. search needs) (λ c κs. search needs) loop-less-4
+    loop-again-4 (λ c. search needs) (λ c κs. search needs) loop-less-5 loop-again-5 same-length same-length-2 returns same-length-3 same-length-4 returns-2)

@@ -1,0 +1,2 @@
+-- The definitions of `run_loop`.
+pub mod Run

@@ -1,0 +1,109 @@
+// The steps of a run, once it is accepted (document 01, "Runs and views").
+use instructions::Coded;
+use processor::Processor;
+ghost use mathlib.Core.Path.{_≡_};
+ghost use Rattle.machine.specs.Machine.{before, after};
+ghost use Rattle.step.specs.Step.{stepped, stepOf};
+ghost use Rattle.run_loop.specs.Run.{request, outcome, runFrom};
+
+// The processor after a run; the refusal or 0, the steps made, and the exception that ended it, or 32.
+pub struct Ran {
+    pub processor: Processor,
+    pub refusal: u32,
+    pub steps: u32,
+    pub eid: u32,
+}
+
+// The steps of an accepted run. `kind` says whether an accepted exception ends it.
+pub fn advance(
+    p: Processor,
+    ram: &mut [u8],
+    rom: &[u8],
+    belt: &mut [u8],
+    wanted: u32,
+    lines: u32,
+    kind: bool,
+) -> Ran
+    ensures { λ r. ⌜ outcome (after (r .processor) ram rom belt) (r .refusal) (r .steps) (r .eid)
+        ≡ runFrom (request kind wanted lines) wanted 0 (before p ram rom belt) ⌝ }
+{
+    let mut state = p;
+    let mut last = tlb::first(&state.tlbhigh);
+    let mut steps = 0;
+    let mut eid = Processor::NO_EXCEPTION;
+    while steps < wanted {
+        last = tlb::follow(&state.tlbhigh, last, state.pc);
+        let action = look::look_at(
+            &state.registers,
+            state.pc,
+            state.psw,
+            &state.tlbhigh,
+            &state.tlblow,
+            last.index,
+            &ram[..],
+            rom,
+            &belt[..],
+            lines,
+        );
+        steps += 1;
+        match action {
+            Coded::Write(n, v, next) => {
+                let i = (n % 32) as usize;
+                if i == 0 {
+                    // As for every branch.
+                    state = state.jump(next);
+                } else {
+                    // The state takes over what the write changes, and nothing is copied.
+                    let change = actions::write(state, n, v, next);
+                    state.registers[i] = change.value;
+                    state.pc = change.pc;
+                }
+            }
+            Coded::Store(width, physical, v) => {
+                actions::store(ram, rom, belt, width, physical, v);
+                state = state.jump(sums::add(state.pc, 4));
+            }
+            Coded::Rfx(_, _, _)
+            | Coded::Mvfs(_, _, _)
+            | Coded::Mvts(_, _, _)
+            | Coded::Tbs(_, _, _)
+            | Coded::Tbwr(_, _, _)
+            | Coded::Tbri(_, _, _)
+            | Coded::Tbwi(_, _, _) => {
+                state = actions::done(state, action);
+                last = tlb::first(&state.tlbhigh);
+            }
+            Coded::Exception(number, address, _) => {
+                state = state.enter(number, address);
+                if kind {
+                    eid = number;
+                    break;
+                }
+            }
+        }
+    }
+    Ran {
+        processor: state,
+        refusal: 0,
+        steps: steps,
+        eid: eid,
+    }
+}
+
+// The processor after a step, and the exception that it accepted, or 32.
+pub struct Stepped {
+    pub processor: Processor,
+    pub eid: u32,
+}
+
+// One step is a run of one step, to exception.
+pub fn step(p: Processor, ram: &mut [u8], rom: &[u8], belt: &mut [u8], lines: u32) -> Stepped
+    ensures { λ r. ⌜ stepped (after (r .processor) ram rom belt) (r .eid) ≡ stepOf (before p ram rom belt) lines ⌝ }
+{
+    let ran = advance(p, ram, rom, belt, 1, lines, true);
+    let next = ran.processor;
+    Stepped {
+        processor: next,
+        eid: ran.eid,
+    }
+}

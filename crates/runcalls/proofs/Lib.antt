@@ -1,2 +1,0 @@
--- The laws of `runcalls`.
-pub mod CallLaws

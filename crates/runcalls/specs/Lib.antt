@@ -1,2 +1,0 @@
--- The definitions of `runcalls`.
-pub mod Runs

@@ -1,2 +1,0 @@
--- The laws of `signedquotients`.
-pub mod Division

@@ -1,2 +1,0 @@
--- The laws of `slices`.
-pub mod SameLaws

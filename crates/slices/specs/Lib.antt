@@ -1,2 +1,0 @@
--- The definitions of `slices`.
-pub mod Same

@@ -1,2 +1,0 @@
--- The definitions of `state`.
-pub mod Machine

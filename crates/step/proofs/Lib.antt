@@ -1,0 +1,9 @@
+-- The laws of `step`.
+pub mod Looks
+pub mod StepLaws
+pub mod PcLaws
+pub mod StepFit
+pub mod RepresentableKept
+pub mod StepRepresentable
+pub mod Named
+pub mod StarredCases

@@ -1,0 +1,53 @@
+-- One step (document 01, "One step"; manual, 3.2): a look, which changes nothing and names an action, and then the action.
+use Prim.Native.Nat.{ℕ}
+use Rattle.memory.specs.Map.{Memory}
+use Rattle.memory.specs.Access.{memoryAfter}
+use Rattle.exceptions.specs.Entry.{noException}
+use Rattle.instructions.specs.Operands.{Surroundings, surroundings}
+use Rattle.instructions.specs.Action.{Action, Write, Store, System, Exception}
+use Rattle.look.specs.Look.{lookFrom}
+use Rattle.actions.specs.Actions.{processorAfter, storeWidth}
+use Rattle.machine.specs.Machine.{Machine}
+
+-- ---- the look
+
+abbrev pub surroundingsOf : Machine → Surroundings
+surroundingsOf m = surroundings (m .processor .psw) (m .processor .tlbhigh) (m .processor .tlblow) (m .memory)
+
+unfoldable pub look : Machine → ℕ → Action
+look m lines = lookFrom (surroundingsOf m) (m .processor .registers) (m .processor .pc) lines
+
+-- ---- the action
+
+abbrev pub memoryDone : Memory → Action → Memory
+memoryDone m (Write n v next) = m
+memoryDone m (Store width physical v) = memoryAfter (storeWidth width) m physical v
+memoryDone m (System i) = m
+memoryDone m (Exception eid address) = m
+
+-- the exception that is accepted, or `noException`
+abbrev pub eidOf : Action → ℕ
+eidOf (Write n v next) = noException
+eidOf (Store width physical v) = noException
+eidOf (System i) = noException
+eidOf (Exception eid address) = eid
+
+abbrev pub done : Machine → Action → Machine
+done m a = record { processor = processorAfter (m .processor) a; memory = memoryDone (m .memory) a }
+
+-- ---- the step
+
+-- what a step tells: the exception that it accepted, or `noException`
+pub record Event : Type 0 where
+  pub eid : ℕ
+
+-- the machine after a step, and the step's event
+pub record Stepped : Type 0 where
+  pub machine : Machine
+  pub event : Event
+
+abbrev pub stepped : Machine → ℕ → Stepped
+stepped m eid = record { machine = m; event = record { eid = eid } }
+
+unfoldable pub stepOf : Machine → ℕ → Stepped
+stepOf m lines = stepped (done m (look m lines)) (eidOf (look m lines))

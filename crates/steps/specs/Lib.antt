@@ -1,2 +1,0 @@
--- The definitions of `steps`.
-pub mod Run

@@ -1,0 +1,7 @@
+-- A helper of the code's contracts. No definition names it.
+use Rattle.instructions.specs.Operands.{fault}
+use Rattle.system.specs.System.{SystemMeaning}
+
+-- past the end of the two lists, as the opcode table has it past its own
+abbrev pub illegalSystem : SystemMeaning
+illegalSystem psw y word = fault 17

@@ -1,2 +1,0 @@
--- The laws of `tally`.
-pub mod TallyLaws

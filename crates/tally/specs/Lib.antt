@@ -1,2 +1,0 @@
--- The definitions of `tally`.
-pub mod Tally

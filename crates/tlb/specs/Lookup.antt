@@ -1,0 +1,32 @@
+-- The TLB entry of a page, what TBS answers for it, and the index that TBWR moves to (manual, 2.9, 3.6.5 and 3.6.6; document 01,
+-- "Closed by us").
+use mathlib.Core.Bool.{cond}
+use mathlib.Core.List.{List}
+use Prim.Native.Nat.{ℕ, zero, suc, _+_, _/_}
+use lib.Dec.{ltb, eqb}
+use lib.ListN.{getD}
+
+-- the page number of a high word, or of an address
+abbrev pub pageOf : ℕ → ℕ
+pageOf word = word / 4096
+
+-- a TLB index is below 32; this stands for none
+abbrev pub noEntry : ℕ
+noEntry = 32
+
+-- the first of the n TLB entries from i on that has a page number, or i + n
+unfoldable pub findFrom : ℕ → List ℕ → ℕ → ℕ → ℕ
+findFrom zero highs i page = i
+findFrom (suc n) highs i page = cond (eqb (pageOf (getD highs i 0)) page) i (findFrom n highs (suc i) page)
+
+-- the lowest index of a page's TLB entry, or `noEntry`. The valid bit plays no part
+unfoldable pub lookup : List ℕ → ℕ → ℕ
+lookup highs page = findFrom noEntry highs 0 page
+
+-- TBS: the index of the TLB entry for Entry High's page, or 80000000; direct-mapped page numbers are found too
+unfoldable pub foundIndex : ℕ → ℕ
+foundIndex i = cond (ltb i noEntry) i 0x80000000
+
+-- TBWR's replacement index: up by 1, and from 31 to 4
+unfoldable pub nextReplacement : ℕ → ℕ
+nextReplacement r = cond (ltb r 31) (r + 1) 4

@@ -1,0 +1,86 @@
+// The entry of a page in the TLB, looked up or kept from before, and the replacement index (manual, 2.9, 3.6.5 and 3.6.6).
+ghost use mathlib.Core.Path.{_≡_};
+ghost use Rattle.tlb.specs.Lookup.{lookup, foundIndex, nextReplacement, pageOf};
+ghost use mathlib.Core.Bool.{cond};
+ghost use lib.Dec.{leb};
+ghost use lib.ListN.{getD};
+
+// The high words of the TLB.
+pub type Words = [u32; 32];
+
+// The lowest index of a page's entry, or 32.
+pub fn find(highs: &Words, page: u32) -> usize
+    ensures { λ r. ⌜ r ≡ lookup (now (highs .entry)) page ⌝ }
+{
+    let mut i: usize = 0;
+    while i < 32 {
+        if highs[i] / 0x1000 == page {
+            return i;
+        }
+        i += 1;
+    }
+    i
+}
+
+pub fn found_index(i: usize) -> u32
+    ensures { λ r. ⌜ r ≡ foundIndex i ⌝ }
+{
+    if i < 32 {
+        return i as u32;
+    }
+    0x8000_0000
+}
+
+pub fn next_replacement(replacement: u32) -> u32
+    ensures { λ r. ⌜ r ≡ nextReplacement replacement ⌝ }
+{
+    if replacement < 31 {
+        return replacement + 1;
+    }
+    4
+}
+
+// The index of an address's page; a direct-mapped address has none.
+pub fn index_of(highs: &Words, address: u32) -> usize
+    ensures { λ r. ⌜ r ≡ cond (leb 0xC0000000 address) 32 (lookup (now (highs .entry)) (pageOf address)) ⌝ }
+{
+    if address < 0xC000_0000 {
+        return find(highs, address / 0x1000);
+    }
+    32
+}
+
+// The entry that was looked up last: in a run the next fetch mostly needs the same.
+pub struct Found {
+    pub page: u32,
+    pub index: usize,
+}
+
+// Entry 0: a lookup of its page would find it at once.
+pub fn first(highs: &Words) -> Found
+    ensures { λ r. ⌜ (r .page ≡ pageOf (getD (now (highs .entry)) 0 0)) × (r .index ≡ lookup (now (highs .entry)) (r .page)) ⌝ }
+{
+    Found {
+        page: highs[0] / 0x1000,
+        index: 0,
+    }
+}
+
+// The entry for an address, where the TLB maps it; otherwise the last one.
+pub fn follow(highs: &Words, last: Found, address: u32) -> Found
+    requires { ⌜ last .index ≡ lookup (now highs) (last .page) ⌝ }
+    ensures page { λ r. ⌜ r .page ≡ cond (leb 0xC0000000 address) (last .page) (pageOf address) ⌝ }
+    ensures index { λ r. ⌜ r .index ≡ lookup (now (highs .entry)) (r .page) ⌝ }
+{
+    if 0xC000_0000 <= address {
+        return last;
+    }
+    let page = address / 0x1000;
+    if page == last.page {
+        return last;
+    }
+    Found {
+        page: page,
+        index: find(highs, page),
+    }
+}

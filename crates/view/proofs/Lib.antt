@@ -1,2 +1,0 @@
--- The laws of `view`.
-pub mod Answers

@@ -1,2 +1,0 @@
--- The definitions of `view`.
-pub mod View

@@ -1,2 +1,0 @@
--- The laws of `viewcalls`.
-pub mod ViewLaws

@@ -1,2 +1,0 @@
--- The definitions of `viewcalls`.
-pub mod Views

@@ -1,2 +1,0 @@
--- The laws of `writes`.
-pub mod Faults

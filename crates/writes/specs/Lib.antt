@@ -1,2 +1,0 @@
--- The definitions of `writes`.
-pub mod Writes
