@@ -11,7 +11,7 @@ use Rattle.instructions.specs.Operands.{Surroundings}
 use Rattle.access.specs.declared.Read.{Read}
 use Rattle.access.specs.declared.Read.the-variants.{Value, Fault}
 
--- a value, or the fault of the translation or the bus timeout (16)
+-- a value, or the fault of the translation or the bus timeout
 
 abbrev pub answered : Loaded → Read
 answered (loaded.Value v) = Value v

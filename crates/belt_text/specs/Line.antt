@@ -3,6 +3,7 @@ use mathlib.Core.Bool.{cond}
 use mathlib.Core.List.{List, [], _∷_, _++_}
 use Prim.Native.Nat.{ℕ, _+_, _-_, _/_, _%_}
 use lib.Dec.{ltb}
+use Rattle.words.specs.Identifiers.{noException}
 
 -- `0` to `9`, then `A` to `F`
 unfoldable pub hexDigit : ℕ → ℕ
@@ -28,9 +29,9 @@ decimalDigit n = 48 + n % 10
 unfoldable pub twoDigits : ℕ → List ℕ
 twoDigits n = decimalDigit (n / 10) ∷ decimalDigit n ∷ []
 
--- an EID is below 32; 32 is a step with no exception, and reads `--`
+-- an EID, or `--` for a step with no exception
 unfoldable pub eidText : ℕ → List ℕ
-eidText eid = cond (ltb eid 32) (twoDigits eid) (45 ∷ 45 ∷ [])
+eidText eid = cond (ltb eid noException) (twoDigits eid) (45 ∷ 45 ∷ [])
 
 -- the line of a step: its number, a blank, the PC, a blank, the EID, the end of the line
 unfoldable pub lineOf : ℕ → ℕ → ℕ → List ℕ

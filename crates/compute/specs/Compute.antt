@@ -3,6 +3,7 @@ use mathlib.Core.Bool.{cond}
 use mathlib.Core.List.{List, [], _∷_}
 use Prim.Native.Nat.{ℕ}
 use lib.Dec.{eqb}
+use Rattle.words.specs.Identifiers.{divisionByZero}
 use Rattle.sums.specs.Sums.{sum, difference, signedProduct, unsignedProduct}
 use Rattle.quotients.specs.Quotients.{signedQuotient, unsignedQuotient, signedRemainder, unsignedRemainder}
 use Rattle.bitwise.specs.Bitwise.{and, or, xor, xnor}
@@ -10,9 +11,9 @@ use Rattle.shifts.specs.Shifts.{shiftLeft, shiftRight, shiftArithmetic, loadHig
 use Rattle.instructions.specs.Operands.{Operands, Simple, immediateS, immediateZ, intoR, intoY, fault, illegal}
 use Rattle.instructions.specs.Action.{Action}
 
--- a divisor of 0 faults (19)
+-- a divisor of 0 faults
 unfoldable pub unlessZero : ℕ → Action → Action
-unlessZero divisor action = cond (eqb divisor 0) (fault 19) action
+unlessZero divisor action = cond (eqb divisor 0) (fault divisionByZero) action
 
 -- 3.3.1, 3.3.2
 abbrev pub ADD : Simple

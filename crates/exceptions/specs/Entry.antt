@@ -4,12 +4,9 @@ use mathlib.Core.Bool.{Bool, cond}
 use Prim.Native.Nat.{ℕ, _+_}
 use lib.Dec.{leb, ltb, eqb}
 use Rattle.words.specs.Logic.{both}
+use Rattle.words.specs.Identifiers.{tlbMiss, tlbInvalid, privilegedAddress}
 use Rattle.status.specs.Psw.{vector}
 use Rattle.kept_bits.specs.Kept.{keptHigh}
-
--- an exception's identifier is below 32; this stands for none
-abbrev pub noException : ℕ
-noException = 32
 
 -- ROM's or RAM's first address, by V
 unfoldable pub serviceBase : ℕ → ℕ
@@ -17,15 +14,15 @@ serviceBase psw = cond (eqb (vector psw) 0) 0xE0000000 0xC0000000
 
 -- a TLB miss on an address below 80000000, in either mode
 unfoldable pub userMiss : ℕ → ℕ → Bool
-userMiss eid address = both (eqb eid 21) (ltb address 0x80000000)
+userMiss eid address = both (eqb eid tlbMiss) (ltb address 0x80000000)
 
 unfoldable pub serviceAddress : ℕ → ℕ → ℕ → ℕ
 serviceAddress psw eid address = serviceBase psw + cond (userMiss eid address) 8 4
 
 -- faults 21 to 25 leave their address
 abbrev pub badAddressAfter : ℕ → ℕ → ℕ → ℕ
-badAddressAfter eid address former = cond (both (leb 21 eid) (leb eid 25)) address former
+badAddressAfter eid address former = cond (both (leb tlbMiss eid) (leb eid privilegedAddress)) address former
 
 -- and 21 to 23 its page number
 abbrev pub entryHighAfter : ℕ → ℕ → ℕ → ℕ
-entryHighAfter eid address former = cond (both (leb 21 eid) (leb eid 23)) (keptHigh address) former
+entryHighAfter eid address former = cond (both (leb tlbMiss eid) (leb eid tlbInvalid)) (keptHigh address) former

@@ -2,6 +2,7 @@
 use mathlib.Core.List.{List}
 use Prim.Native.Nat.{ℕ, _/_, _%_, _^_}
 use Rattle.words.specs.Numbers.{zeroExtend, signExtend}
+use Rattle.words.specs.Identifiers.{illegalInstruction}
 use lib.ListN.{getD}
 use denote.Ref.{now}
 use Rattle.memory.specs.Map.{Memory}
@@ -79,4 +80,4 @@ fault eid = Exception eid 0
 
 -- opcodes 1E, 3E and 3F
 abbrev pub illegal : Simple
-illegal o = fault 17
+illegal o = fault illegalInstruction

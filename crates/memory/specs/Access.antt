@@ -1,6 +1,7 @@
 -- Loads and stores of w bytes at a physical address (document 01, "One step" and "Closed by us"; manual, 3.5).
 use mathlib.Core.List.{List}
 use Prim.Native.Nat.{ℕ}
+use Rattle.words.specs.Identifiers.{busTimeout, noException}
 use Rattle.endian.specs.BigEndian.{readAt, writeAt}
 use Rattle.memory.specs.Map.{Memory, memory, placeIn}
 use Rattle.memory.specs.declared.Place.{Place}
@@ -43,15 +44,15 @@ writeIn w m Nothing v = m
 unfoldable pub memoryAfter : ℕ → Memory → ℕ → ℕ → Memory
 memoryAfter w m address v = writeIn w m (placeIn w m address) v
 
--- the numbers of an answer: the exception that it names, 16, or 32 for none; and what a load brings, 0 where it times out
+-- the numbers of an answer: the exception that it names, or `noException`; and what a load brings, 0 where it times out
 abbrev pub loadedEid : Loaded → ℕ
-loadedEid (loaded.Value v) = 32
-loadedEid loaded.Timeout = 16
+loadedEid (loaded.Value v) = noException
+loadedEid loaded.Timeout = busTimeout
 
 abbrev pub loadedValue : Loaded → ℕ
 loadedValue (loaded.Value v) = v
 loadedValue loaded.Timeout = 0
 
 abbrev pub storedEid : Stored → ℕ
-storedEid stored.Done = 32
-storedEid stored.Timeout = 16
+storedEid stored.Done = noException
+storedEid stored.Timeout = busTimeout

@@ -5,7 +5,7 @@ use Rattle.machine.specs.Machine.{Machine}
 use Rattle.step.specs.Step.{stepOf}
 use Rattle.expected.specs.Expected.{Expected, agrees}
 
--- the machine after a step, and the EID of the exception that it accepts, or 32
+-- the machine after a step, and the EID of the exception that it accepts, or `noException`
 abbrev pub machineAfter : Machine → ℕ → Machine
 machineAfter m lines = stepOf m lines .machine
 

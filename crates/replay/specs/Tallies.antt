@@ -4,6 +4,7 @@ use mathlib.Core.List.{List}
 use Prim.Native.Nat.{ℕ, _/_, _^_}
 use lib.Dec.{eqb}
 use denote.Ref.{now}
+use Rattle.words.specs.Identifiers.{noException}
 use Rattle.memory.specs.Lent.{Lent}
 use Rattle.access.specs.Reads.{readFrom}
 use Rattle.access.specs.declared.Read.{Read}
@@ -37,10 +38,10 @@ talliesLent opcodes exceptions = tallies (now (opcodes .entry)) (now (exceptions
 abbrev pub talliesLeft : Lent → Lent → Tallies
 talliesLeft opcodes exceptions = tallies (now (opcodes .exit)) (now (exceptions .exit))
 
--- a step with this EID, or 32, of the instruction with this opcode
+-- a step with this EID, or `noException`, of the instruction with this opcode
 unfoldable pub tallied : Tallies → ℕ → ℕ → Tallies
 tallied t opcode eid =
-    cond (eqb eid 32)
+    cond (eqb eid noException)
     (tallies (raisedAt (t .opcodes) opcode) (t .exceptions))
     (tallies (t .opcodes) (raisedAt (t .exceptions) eid))
 

@@ -4,7 +4,7 @@ use mathlib.Core.List.{List, [], _∷_, _++_}
 use Prim.Native.Nat.{ℕ}
 use lib.Dec.{eqb}
 use Rattle.memory.specs.Map.{Memory}
-use Rattle.exceptions.specs.Entry.{noException}
+use Rattle.words.specs.Identifiers.{noException}
 use Rattle.record_layout.specs.Record.{recordOf, processorOf}
 use Rattle.machine.specs.Machine.{Machine}
 use Rattle.step.specs.Step.{Stepped}

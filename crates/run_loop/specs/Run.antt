@@ -5,7 +5,7 @@ use Prim.Native.Nat.{ℕ, zero, suc}
 use lib.Dec.{ltb, eqb}
 use Rattle.words.specs.Logic.{both}
 use Rattle.machine.specs.Machine.{Machine}
-use Rattle.exceptions.specs.Entry.{noException}
+use Rattle.words.specs.Identifiers.{noException}
 use Rattle.step.specs.Step.{Stepped, stepOf}
 use Rattle.refusals.specs.Refusal.{runRefusal}
 

@@ -2,7 +2,7 @@
 use Prim.Native.Nat.{ℕ}
 use Rattle.memory.specs.Map.{Memory}
 use Rattle.memory.specs.Access.{memoryAfter}
-use Rattle.exceptions.specs.Entry.{noException}
+use Rattle.words.specs.Identifiers.{noException}
 use Rattle.instructions.specs.Operands.{Surroundings, surroundings}
 use Rattle.instructions.specs.Action.{Action, Write, Store, System, Exception}
 use Rattle.look.specs.Look.{lookFrom}

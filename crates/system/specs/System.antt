@@ -3,13 +3,14 @@
 use mathlib.Core.Bool.{cond}
 use mathlib.Core.List.{List, [], _∷_}
 use Prim.Native.Nat.{ℕ, _%_, _^_}
+use Rattle.words.specs.Identifiers.{privilegedInstruction, trap}
 use Rattle.status.specs.Psw.{userMode}
 use Rattle.instructions.specs.Operands.{fieldY, fault}
 use Rattle.instructions.specs.Action.{Action, System, Rfx, Mvfs, Mvts, Tbs, Tbwr, Tbri, Tbwi}
 
--- in User Mode a privileged instruction faults (18)
+-- in User Mode a privileged instruction faults
 unfoldable pub privileged : ℕ → Action → Action
-privileged psw action = cond (userMode psw) (fault 18) action
+privileged psw action = cond (userMode psw) (fault privilegedInstruction) action
 
 -- bits 15..0: all of them count as a special register's number
 abbrev pub numberZ : ℕ → ℕ
@@ -21,7 +22,7 @@ SystemMeaning = ℕ → ℕ → ℕ → Action
 
 -- 3.6.1 to 3.6.8
 abbrev pub TRAP : SystemMeaning
-TRAP psw y word = fault 20
+TRAP psw y word = fault trap
 
 abbrev pub RFX : SystemMeaning
 RFX psw y word = privileged psw (System Rfx)

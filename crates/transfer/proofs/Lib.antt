@@ -1,3 +1,2 @@
 -- The laws of `transfer`.
-pub mod Arms
 pub mod Loads

@@ -3,6 +3,6 @@ use mathlib.Core.List.{List, [], _∷_}
 use Prim.Native.Nat.{ℕ}
 use Rattle.words.specs.Numbers.{zeroExtend, signExtend}
 
--- the extensions of LDW, LDH, LDHU, LDB and LDBU, in this order
+-- the extensions of LDW, LDH, LDHU and LDB, in this order; LDBU's, `zeroExtend 8`, stands past the end
 unfoldable pub extensions : List (ℕ → ℕ)
-extensions = (λ v. v) ∷ signExtend 16 ∷ zeroExtend 16 ∷ signExtend 8 ∷ zeroExtend 8 ∷ []
+extensions = (λ v. v) ∷ signExtend 16 ∷ zeroExtend 16 ∷ signExtend 8 ∷ []

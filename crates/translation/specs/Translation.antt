@@ -6,7 +6,7 @@ use lib.Dec.{leb, ltb, eqb}
 use lib.ListN.{getD}
 use Rattle.words.specs.Logic.{both}
 use Rattle.status.specs.Psw.{userMode}
-use Rattle.exceptions.specs.Entry.{noException}
+use Rattle.words.specs.Identifiers.{tlbMiss, tlbWrite, tlbInvalid, illegalAddress, privilegedAddress, noException}
 use Rattle.tlb.specs.Lookup.{pageOf, noEntry, lookup}
 use Rattle.translation.specs.declared.Width.{Width}
 use Rattle.translation.specs.declared.Width.the-variants.{Byte, Half, Word}
@@ -63,11 +63,11 @@ translated psw highs lows width store address =
 -- what becomes of a translation: of the physical address, or of the fault by its number (document 01, "One step")
 abbrev pub resolved : {A : Type 0} → (ℕ → A) → (ℕ → A) → Translation → A
 resolved at fault (Physical address) = at address
-resolved at fault TlbMiss = fault 21
-resolved at fault TlbWrite = fault 22
-resolved at fault TlbInvalid = fault 23
-resolved at fault IllegalAddress = fault 24
-resolved at fault PrivilegedAddress = fault 25
+resolved at fault TlbMiss = fault tlbMiss
+resolved at fault TlbWrite = fault tlbWrite
+resolved at fault TlbInvalid = fault tlbInvalid
+resolved at fault IllegalAddress = fault illegalAddress
+resolved at fault PrivilegedAddress = fault privilegedAddress
 
 -- the exception that an answer names, or `noException`
 abbrev pub translationEid : Translation → ℕ

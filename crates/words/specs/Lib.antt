@@ -2,3 +2,4 @@
 pub mod Numbers
 pub mod Logic
 pub mod Lists
+pub mod Identifiers

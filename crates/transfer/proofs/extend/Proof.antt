@@ -1,11 +1,10 @@
--- `transfer::extend` meets its contract, by the laws of Arms.
+-- `transfer::extend` meets its contract, by the laws of `instructions` on arms.
 use mathlib.Core.Path.{refl, _∙_}
 use Prim.Native.Nat.{ℕ}
 use lib.ListN.{getD}
 use borrow.Author.Needs.{needs}
 use Rattle.transfer.specs.Code.{extensions}
-use Rattle.instructions.proofs.Arms.{arm}
-use Rattle.transfer.proofs.Arms.{extension-last}
+use Rattle.instructions.proofs.Arms.{arm, past}
 use Rattle.words.specs.Numbers.{zeroExtend}
 use Rattle.transfer.proofs.extend.Statement.{statement}
 use Rattle.transfer.proofs.extend.Tie as tie
@@ -28,7 +27,9 @@ returns-4 c = arm (λ (n : ℕ). getD extensions n (zeroExtend 8) (c .before .be
 
 returns-5 : tie.Need-returns-5
 unfolding extensions
-returns-5 c = c .zero-extend-8 .ensures ∙ extension-last (c .before .before .args .kind) (c .before .before .args .v) (c .before .match .rest)
+returns-5 c =
+    let args = c .before .before .args in
+    c .zero-extend-8 .ensures ∙ past (λ (f : ℕ → ℕ). f (args .v)) extensions (zeroExtend 8) (args .kind) (c .before .match .rest)
 
 pub extend-spec : {M : Type 1} → statement M
 extend-spec =

@@ -1,15 +1,14 @@
--- `transfer::transfer` meets its contract, by the laws of Arms and Loads.
+-- `transfer::transfer` meets its contract, by the laws of Loads, and those of `instructions` on arms.
 use mathlib.Core.Path.{ap, _∙_}
 use Prim.Native.Nat.{ℕ}
 use lib.ListN.{getD}
 use denote.Ref.{now}
 use borrow.Author.Needs.{needs}
-use Rattle.instructions.specs.Operands.{operands, surroundings, simple, illegal}
+use Rattle.instructions.specs.Operands.{Meaning, operands, surroundings, simple, illegal}
 use Rattle.transfer.specs.Transfer.{load, transfers}
 use Rattle.transfer.specs.Code.{extensions}
 use Rattle.access.specs.Writes.{storeTo}
-use Rattle.instructions.proofs.Arms.{arm}
-use Rattle.transfer.proofs.Arms.{transfer-illegal}
+use Rattle.instructions.proofs.Arms.{arm, past}
 use Rattle.transfer.proofs.Loads.{lands}
 use Rattle.memory.specs.Map.{memory}
 use Rattle.sums.specs.Sums.{sum}
@@ -116,8 +115,8 @@ returns-9 : tie.Need-returns-9
 unfolding load extensions transfers
 returns-9 c =
     let args = c .before .before .before .before .before .before .args in
-    transfer-illegal (args .kind) (surroundings (args .psw) (now (args .highs)) (now (args .lows))
-    (memory (now (args .ram)) (now (args .rom)) (now (args .belt)))) (operands (args .x) (args .y) (args .word) (args .next)) (c .match .rest)
+    let around = surroundings (args .psw) (now (args .highs)) (now (args .lows)) (memory (now (args .ram)) (now (args .rom)) (now (args .belt))) in
+    past (λ (f : Meaning). f around (operands (args .x) (args .y) (args .word) (args .next))) transfers (simple illegal) (args .kind) (c .match .rest)
 
 pub transfer-spec : {M : Type 1} → statement M
 transfer-spec =
