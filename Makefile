@@ -1,9 +1,11 @@
-# The library, its command-line host, the gate, and the installation.
+# The library, its command-line host, the belt's week, the tests, and the installation.
 #
-#   make                               the library, if it is missing, and target/host/eco32
+#   make                               the library, if it is missing or older than crates/, libeco32.so, target/host/eco32 and its page
+#   make week                          the library and the belt's week (examples/belt)
+#   make check                         the tests that need no proof, in under a minute
 #   make test                          the gate, .ci/run
 #   make bench                         the model's speed beside a plain C simulator's and the Rust simulator's
-#   make install PREFIX=.. [DESTDIR=..]  header, library, eco32.pc and host
+#   make install PREFIX=.. [DESTDIR=..]  headers, libraries, files for pkg-config and CMake, documents, host and its page
 #   make uninstall PREFIX=.. [DESTDIR=..]
 #   make clean                         away with what make built, the library too
 
@@ -13,15 +15,27 @@ BINDIR = $(PREFIX)/bin
 INCLUDEDIR = $(PREFIX)/include
 LIBDIR = $(PREFIX)/lib
 PKGCONFIGDIR = $(LIBDIR)/pkgconfig
+CMAKEDIR = $(LIBDIR)/cmake/eco32
+MANDIR = $(PREFIX)/share/man
+DOCDIR = $(PREFIX)/share/doc/eco32
 
 CFLAGS = -O2
 WARNINGS = -Wall -Wextra -Wpedantic -Wconversion
 INSTALL = install
 
-VERSION := $(shell sed -n 's/.*ECO32_VERSION "\(.*\)"/\1/p' host/version.h)
+# The header alone has the version and the ABI number.
+VERSION := $(shell sed -n 's/^\#define ECO32_VERSION "\(.*\)"/\1/p' include/eco32.h)
+ABI := $(shell sed -n 's/^\#define ECO32_ABI \([0-9]*\).*/\1/p' include/eco32.h)
 LIBRARY = target/staticlib/libeco32.a
+LIBRARY_LOG = target/staticlib/libeco32.log
 HOST = target/host/eco32
 OBJECTS := $(patsubst host/%.c,target/host/%.o,$(wildcard host/*.c))
+
+# libeco32.so.ABI.MINOR.PATCH, libeco32.so.ABI for programs that run, libeco32.so for those that are linked.
+SONAME = libeco32.so.$(ABI)
+SHARED_NAME = $(SONAME).$(word 2,$(subst ., ,$(VERSION))).$(word 3,$(subst ., ,$(VERSION)))
+SHARED = target/shared/$(SHARED_NAME)
+MANUAL = target/man/eco32.1
 
 # The bench: -O3 for C, as cargo's release profile has it for Rust. BENCH_FLAGS may be --steps N and --rounds N.
 BENCH = target/bench/bench
@@ -33,13 +47,30 @@ PLAIN_OBJECTS = target/bench/plain.o target/bench/record.o
 BENCH_OBJECTS = target/bench/bench.o target/bench/images.o $(PLAIN_OBJECTS)
 REPLAY_OBJECTS = target/bench/replay.o $(PLAIN_OBJECTS)
 
-.PHONY: all test bench cargo install uninstall clean absolute
+# What the library is proved and made of. The directories stand for files that are gone.
+PROVED := $(shell find crates.txt crates/*/src crates/*/specs crates/*/proofs 2>/dev/null)
+
+BELT = target/belt
+BELT_SOURCES := $(wildcard examples/belt/*.c)
+WEEK = examples/belt/belt.rom examples/belt/belt.ram examples/belt/packs.txt examples/belt/cell.txt
+
+.PHONY: all week check test bench cargo install uninstall clean absolute
 
 all: $(LIBRARY) $(HOST)
 
-# Only where it is missing: rt itself knows what has to be proved again, and the gate has it do so.
-$(LIBRARY):
-	rt staticlib eco32
+# rt itself knows which crates have to be proved again. `rt check` proves several at a time, `rt staticlib` then finds them proved. rt waits
+# for the slowest of those that it started together: two for each core leave less of them idle. A prover takes up to a GiB.
+# A line for each crate is printed; the rest of what rt says is in the log. No old library stays where a proof fails.
+$(LIBRARY): $(PROVED)
+	@command -v rt >/dev/null || { \
+	    echo 'make: rt is not on the PATH. It proves and builds the library, and comes with the Rattle kit that .ci/kit names:' \
+	        'see README.md, "Two commands"' >&2; exit 2; }
+	@mkdir -p $(@D)
+	@echo 'rt proves and builds $@, a line for each crate; all that it says is in $(LIBRARY_LOG)'
+	@{ { [ ! -e crates.txt ] || RT_JOBS=$${RT_JOBS:-$$((2 * $$(nproc)))} rt check eco32; } && rt staticlib eco32; echo "status $$?"; } 2>&1 | tee $(LIBRARY_LOG) | \
+	    while IFS= read -r line; do case $$line in 'rt: '*' proved ('*' s)' | 'rt: '*'NOT PROVED'*) printf '%s\n' "$$line" ;; esac; done
+	@[ "$$(tail -n 1 $(LIBRARY_LOG))" = 'status 0' ] || { rm -f $@; tail -n 20 $(LIBRARY_LOG) | cut -c 1-300 >&2; \
+	    echo 'make: $@ is not proved: $(LIBRARY_LOG) has all that rt said' >&2; exit 2; }
 
 # The archive is position-independent: no -no-pie is needed.
 $(HOST): $(OBJECTS) $(LIBRARY)
@@ -50,6 +81,15 @@ target/host/%.o: host/%.c
 	$(CC) -std=c11 $(WARNINGS) $(CPPFLAGS) $(CFLAGS) -Iinclude -MMD -MP -c $< -o $@
 
 -include $(OBJECTS:.o=.d) $(BENCH_OBJECTS:.o=.d) target/bench/replay.d
+
+$(BELT): $(BELT_SOURCES) $(wildcard examples/belt/*.h) include/eco32.h $(LIBRARY)
+	@$(CC) -std=c11 $(WARNINGS) $(CPPFLAGS) $(CFLAGS) $(LDFLAGS) -Iinclude $(BELT_SOURCES) $(LIBRARY) $(LDLIBS) -o $@
+
+week: $(BELT)
+	@$(BELT) $(WEEK)
+
+check:
+	@tests/check
 
 test:
 	.ci/run
@@ -72,24 +112,62 @@ target/bench/%.o: reference/bench/%.c
 $(BENCH_RUST): cargo
 	cargo build --release --offline --quiet --manifest-path reference/bench/rust/Cargo.toml --target-dir target/bench/rust
 
+all: $(SHARED) $(MANUAL)
+
+# The archive's one object, whole, and nothing beside it: no start files either. It exports what the archive exports.
+$(SHARED): $(LIBRARY)
+	@mkdir -p $(@D)
+	$(CC) -shared -nostartfiles $(LDFLAGS) -Wl,-soname,$(SONAME) -Wl,-z,defs \
+	    -Wl,--whole-archive $(LIBRARY) -Wl,--no-whole-archive -o $@
+	ln -sf $(SHARED_NAME) target/shared/$(SONAME)
+	ln -sf $(SONAME) target/shared/libeco32.so
+
+# The options are those that the host's help names.
+$(MANUAL): man/eco32.1.in man/page.awk include/eco32.h $(HOST)
+	@mkdir -p $(@D)
+	$(HOST) --help >target/man/help
+	awk -v version=$(VERSION) -f man/page.awk target/man/help man/eco32.1.in >$@.new
+	mv $@.new $@
+
+# What is installed, without DESTDIR and in quotes.
+INSTALLED = '$(BINDIR)/eco32' '$(INCLUDEDIR)/eco32.h' '$(INCLUDEDIR)/eco32_text.h' '$(LIBDIR)/libeco32.a' \
+    '$(LIBDIR)/$(SHARED_NAME)' '$(LIBDIR)/$(SONAME)' '$(LIBDIR)/libeco32.so' '$(PKGCONFIGDIR)/eco32.pc' \
+    '$(CMAKEDIR)/eco32-config.cmake' '$(CMAKEDIR)/eco32-config-version.cmake' '$(MANDIR)/man1/eco32.1' \
+    '$(DOCDIR)/C-API.md' '$(DOCDIR)/CHANGELOG.md'
+
+# eco32.pc says where things are by its prefix, the CMake files by their own place: an installed tree may be moved.
+below_prefix = $(subst ^$(PREFIX)/,$${prefix}/,^$(1))
+from_cmake = $$(realpath -m -s --relative-to='$(CMAKEDIR)' '$(1)')
+FILL = sed -e 's|@PREFIX@|$(PREFIX)|' -e 's|@INCLUDEDIR@|$(patsubst ^%,%,$(call below_prefix,$(INCLUDEDIR)))|' \
+    -e 's|@LIBDIR@|$(patsubst ^%,%,$(call below_prefix,$(LIBDIR)))|' -e 's|@VERSION@|$(VERSION)|' \
+    -e 's|@SONAME@|$(SONAME)|' -e 's|@SHARED@|$(SHARED_NAME)|' \
+    -e "s|@TO_INCLUDE@|$(call from_cmake,$(INCLUDEDIR))|" -e "s|@TO_LIB@|$(call from_cmake,$(LIBDIR))|"
+
 # eco32.pc names the prefix, so it has to hold from any directory.
 absolute:
 	@case '$(PREFIX)' in /*) ;; *) echo 'make: PREFIX has to be an absolute path' >&2; exit 1 ;; esac
 
 install: absolute all
-	$(INSTALL) -d '$(DESTDIR)$(BINDIR)' '$(DESTDIR)$(INCLUDEDIR)' '$(DESTDIR)$(LIBDIR)' '$(DESTDIR)$(PKGCONFIGDIR)'
+	$(INSTALL) -d '$(DESTDIR)$(BINDIR)' '$(DESTDIR)$(INCLUDEDIR)' '$(DESTDIR)$(LIBDIR)' '$(DESTDIR)$(PKGCONFIGDIR)' \
+	    '$(DESTDIR)$(CMAKEDIR)' '$(DESTDIR)$(MANDIR)/man1' '$(DESTDIR)$(DOCDIR)' target/install
 	$(INSTALL) -m 755 $(HOST) '$(DESTDIR)$(BINDIR)/eco32'
-	$(INSTALL) -m 644 include/eco32.h '$(DESTDIR)$(INCLUDEDIR)/eco32.h'
-	$(INSTALL) -m 644 $(LIBRARY) '$(DESTDIR)$(LIBDIR)/libeco32.a'
-	sed -e 's|@PREFIX@|$(PREFIX)|' -e 's|@INCLUDEDIR@|$(INCLUDEDIR)|' -e 's|@LIBDIR@|$(LIBDIR)|' \
-	    -e 's|@VERSION@|$(VERSION)|' eco32.pc.in >target/host/eco32.pc
-	$(INSTALL) -m 644 target/host/eco32.pc '$(DESTDIR)$(PKGCONFIGDIR)/eco32.pc'
+	$(INSTALL) -m 644 include/eco32.h include/eco32_text.h '$(DESTDIR)$(INCLUDEDIR)'
+	$(INSTALL) -m 644 $(LIBRARY) $(SHARED) '$(DESTDIR)$(LIBDIR)'
+	ln -sf $(SHARED_NAME) '$(DESTDIR)$(LIBDIR)/$(SONAME)'
+	ln -sf $(SONAME) '$(DESTDIR)$(LIBDIR)/libeco32.so'
+	$(FILL) eco32.pc.in >target/install/eco32.pc
+	$(FILL) cmake/eco32-config.cmake.in >target/install/eco32-config.cmake
+	$(FILL) cmake/eco32-config-version.cmake.in >target/install/eco32-config-version.cmake
+	$(INSTALL) -m 644 target/install/eco32.pc '$(DESTDIR)$(PKGCONFIGDIR)'
+	$(INSTALL) -m 644 target/install/eco32-config.cmake target/install/eco32-config-version.cmake '$(DESTDIR)$(CMAKEDIR)'
+	$(INSTALL) -m 644 $(MANUAL) '$(DESTDIR)$(MANDIR)/man1'
+	$(INSTALL) -m 644 docs/C-API.md docs/CHANGELOG.md '$(DESTDIR)$(DOCDIR)'
 
-# The directories stay: others may use them.
+# The two directories of its own go too, if they are empty. The others stay: others may use them.
 uninstall: absolute
-	rm -f '$(DESTDIR)$(BINDIR)/eco32' '$(DESTDIR)$(INCLUDEDIR)/eco32.h' '$(DESTDIR)$(LIBDIR)/libeco32.a' \
-	    '$(DESTDIR)$(PKGCONFIGDIR)/eco32.pc'
+	for file in $(INSTALLED); do rm -f '$(DESTDIR)'"$$file" || exit 1; done
+	for own in '$(CMAKEDIR)' '$(DOCDIR)'; do rmdir '$(DESTDIR)'"$$own" 2>/dev/null || true; done
 
 clean:
-	rm -rf target/host target/bench
-	rm -f $(LIBRARY)
+	rm -rf target/host target/bench target/shared target/man target/install
+	rm -f $(LIBRARY) $(LIBRARY_LOG) $(BELT)

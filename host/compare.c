@@ -5,16 +5,26 @@
 #include <inttypes.h>
 #include <stdio.h>
 
+static int say_no_word(const char *path, const struct pair *pair)
+{
+    char text[24];
+    int length = snprintf(text, sizeof text, "%08" PRIX64, pair->first);
+    struct place place = {path, pair->line, text, (size_t)length};
+
+    return say_bad_line(&place, "no word of RAM, ROM or belt has that address");
+}
+
 int compare_read(const struct options *options, const struct world *world, struct pairs *words)
 {
     static const struct pair_form form = {1, UINT32_MAX, UINT32_MAX,
-                                          "not a line \"ADDRESS VALUE\", both hexadecimal up to FFFFFFFF"};
+                                          "not a line \"ADDRESS VALUE\", both hexadecimal up to FFFFFFFF",
+                                          "no line \"ADDRESS VALUE\" in it: nothing to compare"};
     const char *path = options->given[OPTION_COMPARE];
     int status = path == NULL ? STATUS_GOOD : pairs_read(path, &form, words);
 
     for (size_t i = 0; status == STATUS_GOOD && i < words->count; i++)
         if (world_word(world, words->at[i].first) == NULL)
-            status = say_bad_line(path, words->at[i].line, "no word of RAM, ROM or belt has that address");
+            status = say_no_word(path, &words->at[i]);
     return status;
 }
 

@@ -57,17 +57,3 @@ int file_read(const char *path, size_t most, struct bytes *bytes)
     fclose(file);
     return status;
 }
-
-int file_write(const char *path, const uint8_t *at, size_t length)
-{
-    FILE *file = fopen(path, "wb");
-    int failed;
-
-    if (file == NULL)
-        return say_bad(path, strerror(errno));
-    errno = 0;
-    failed = fwrite(at, 1, length, file) != length;
-    if (fclose(file) != 0 || failed)
-        return say_bad(path, strerror(errno));
-    return STATUS_GOOD;
-}

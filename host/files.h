@@ -1,4 +1,4 @@
-/* Whole files, read up to a bound, and written. Failures are told; the answer is an exit status. */
+/* Whole files, read up to a bound. Failures are told; the answer is an exit status. */
 #ifndef HOST_FILES_H
 #define HOST_FILES_H
 
@@ -10,7 +10,5 @@
 /* Reads a file of at most `most` bytes. `bytes` has to be empty before, and is the caller's to free after,
  * whatever the answer. */
 int file_read(const char *path, size_t most, struct bytes *bytes);
-
-int file_write(const char *path, const uint8_t *at, size_t length);
 
 #endif

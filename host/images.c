@@ -2,15 +2,20 @@
 #include "say.h"
 #include "world.h"
 
+#include <stdio.h>
+
 #define ROM_BEGINS 0x20000000
 #define BELT_BEGINS 0x30500000
+
+/* RAM, where no size is asked for and no image is longer: room for a stack and data of firmware. */
+#define RAM_USUAL 1048576
 
 /* An image's length with the zeros behind it. */
 static size_t padded(size_t length)
 {
     size_t frames = (length + ECO32_FRAME_LENGTH - 1) / ECO32_FRAME_LENGTH;
 
-    return (frames == 0 ? 1 : frames) * ECO32_FRAME_LENGTH;
+    return frames * ECO32_FRAME_LENGTH;
 }
 
 /* A file that is too long is not read, so the host itself names the library's cause. */
@@ -18,7 +23,7 @@ static int read_refused(const char *path, size_t most, uint32_t refusal, struct 
 {
     int status = file_read(path, most, bytes);
 
-    return status == FILE_LONGER ? say_refused(path, refusal) : status;
+    return status == FILE_LONGER ? say_refused(path, NULL, refusal) : status;
 }
 
 static int grow(struct bytes *bytes, size_t length)
@@ -26,37 +31,60 @@ static int grow(struct bytes *bytes, size_t length)
     return bytes_grow(bytes, length) ? STATUS_GOOD : say_no_memory();
 }
 
+/* An image without a byte is nearly always one that was not built. */
+static int check_image(const char *path, const struct bytes *image)
+{
+    return image->length != 0 ? STATUS_GOOD : say_bad(path, "an empty image");
+}
+
 static int make_rom(const struct options *options, struct world *world)
 {
     int status = read_refused(options->rom, ECO32_ROM_MOST, ECO32_REFUSED_ROM_LENGTH, &world->rom);
 
+    if (status == STATUS_GOOD)
+        status = check_image(options->rom, &world->rom);
     return status == STATUS_GOOD ? grow(&world->rom, padded(world->rom.length)) : status;
+}
+
+static int say_longer(const char *path, const char *size)
+{
+    char message[80];
+
+    snprintf(message, sizeof message, "longer than --ram-size %s", size);
+    return say_bad(path, message);
 }
 
 /* RAM of the size that was asked for, be it one that the library refuses. */
 static int make_sized_ram(const struct options *options, struct world *world)
 {
+    const char *text = options->given[OPTION_RAM_SIZE];
     size_t size = (size_t)options->ram_size;
     int status = STATUS_GOOD;
 
     if (options->ram_size > ECO32_RAM_MOST)
-        return say_refused("--ram-size", ECO32_REFUSED_RAM_LENGTH);
+        return say_refused("--ram-size", text, ECO32_REFUSED_RAM_LENGTH);
     if (options->ram != NULL)
         status = file_read(options->ram, size, &world->ram);
     if (status == FILE_LONGER)
-        return say_bad(options->ram, "longer than --ram-size");
+        return say_longer(options->ram, text);
+    if (status == STATUS_GOOD && options->ram != NULL)
+        status = check_image(options->ram, &world->ram);
     return status == STATUS_GOOD ? grow(&world->ram, size) : status;
 }
 
 static int make_ram(const struct options *options, struct world *world)
 {
     int status = STATUS_GOOD;
+    size_t size;
 
     if (options->given[OPTION_RAM_SIZE] != NULL)
         return make_sized_ram(options, world);
     if (options->ram != NULL)
         status = read_refused(options->ram, ECO32_RAM_MOST, ECO32_REFUSED_RAM_LENGTH, &world->ram);
-    return status == STATUS_GOOD ? grow(&world->ram, padded(world->ram.length)) : status;
+    if (status == STATUS_GOOD && options->ram != NULL)
+        status = check_image(options->ram, &world->ram);
+    size = padded(world->ram.length);
+    return status == STATUS_GOOD ? grow(&world->ram, size < RAM_USUAL ? RAM_USUAL : size) : status;
 }
 
 static int make_belt(const struct options *options, struct world *world)
@@ -77,13 +105,13 @@ static int make_machine(const struct options *options, struct world *world)
 
     if (path == NULL) {
         refusal = eco32_reset(world->machine, sizeof world->machine);
-        return refusal == ECO32_ACCEPTED ? STATUS_GOOD : say_refused("reset", refusal);
+        return refusal == ECO32_ACCEPTED ? STATUS_GOOD : say_refused("reset", NULL, refusal);
     }
     status = read_refused(path, ECO32_RECORD_LENGTH, ECO32_REFUSED_RECORD_LENGTH, &record);
     if (status == STATUS_GOOD) {
         refusal = eco32_read_record(record.at, record.length, world->machine, sizeof world->machine);
         if (refusal != ECO32_ACCEPTED)
-            status = say_refused(path, refusal);
+            status = say_refused(path, NULL, refusal);
     }
     bytes_free(&record);
     return status;
@@ -99,30 +127,6 @@ int world_make(const struct options *options, struct world *world)
         status = make_belt(options, world);
     if (status == STATUS_GOOD)
         status = make_machine(options, world);
-    return status;
-}
-
-static int write_machine(const char *path, const struct world *world)
-{
-    uint8_t record[ECO32_RECORD_LENGTH];
-    uint32_t refusal = eco32_write_record(world->machine, sizeof world->machine, record, sizeof record);
-
-    return refusal == ECO32_ACCEPTED ? file_write(path, record, sizeof record) : say_refused(path, refusal);
-}
-
-int world_write(const struct options *options, const struct world *world)
-{
-    const char *save = options->given[OPTION_SAVE];
-    const char *belt = options->given[OPTION_BELT_OUT];
-    const char *ram = options->given[OPTION_RAM_OUT];
-    int status = STATUS_GOOD;
-
-    if (save != NULL)
-        status = write_machine(save, world);
-    if (status == STATUS_GOOD && belt != NULL)
-        status = file_write(belt, world->belt.at, world->belt.length);
-    if (status == STATUS_GOOD && ram != NULL)
-        status = file_write(ram, world->ram.at, world->ram.length);
     return status;
 }
 
@@ -147,4 +151,11 @@ const uint8_t *world_word(const struct world *world, uint64_t physical)
     if (word == NULL)
         word = word_in(&world->rom, ROM_BEGINS, physical);
     return word == NULL ? word_in(&world->belt, BELT_BEGINS, physical) : word;
+}
+
+const char *world_part(uint64_t physical)
+{
+    if (physical < ROM_BEGINS)
+        return "RAM";
+    return physical < BELT_BEGINS ? "ROM" : "belt";
 }

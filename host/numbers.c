@@ -2,6 +2,11 @@
 
 #include <string.h>
 
+struct unit {
+    const char *name; /* in small letters; an empty name ends a list of units */
+    uint64_t times;
+};
+
 /* The value of a digit in either letter case, or 16. */
 static unsigned digit_value(char digit)
 {
@@ -25,37 +30,63 @@ static int number_in(unsigned base, const char *text, size_t length, uint64_t mo
     return length != 0;
 }
 
+static int has_prefix(const char *text, size_t length)
+{
+    return length >= 2 && text[0] == '0' && (text[1] == 'x' || text[1] == 'X');
+}
+
 int number_decimal(const char *text, size_t length, uint64_t most, uint64_t *number)
 {
+    if (has_prefix(text, length))
+        return number_in(16, text + 2, length - 2, most, number);
     return number_in(10, text, length, most, number);
 }
 
 int number_hex(const char *text, size_t length, uint64_t most, uint64_t *number)
 {
-    return number_in(16, text, length, most, number);
+    size_t prefix = has_prefix(text, length) ? 2 : 0;
+
+    return number_in(16, text + prefix, length - prefix, most, number);
 }
 
+/* Letters alone: any byte that | 32 makes one of `end` is that letter. */
 static int ends_with(const char *text, size_t length, const char *end)
 {
     size_t end_length = strlen(end);
 
-    return length >= end_length && memcmp(text + length - end_length, end, end_length) == 0;
+    if (length < end_length)
+        return 0;
+    for (size_t i = 0; i < end_length; i++)
+        if ((text[length - end_length + i] | 32) != end[i])
+            return 0;
+    return 1;
 }
 
-int number_size(const char *text, size_t length, uint64_t *bytes)
+static int number_with_unit(const char *text, const struct unit *units, uint64_t *number)
 {
-    static const struct {
-        const char *name;
-        uint64_t bytes;
-    } units[] = {{"KiB", 1024}, {"K", 1024}, {"MiB", 1048576}, {"M", 1048576}, {"", 1}};
+    size_t length = strlen(text);
 
-    for (size_t i = 0; i < sizeof units / sizeof units[0]; i++) {
-        if (!ends_with(text, length, units[i].name))
+    for (; units->name[0] != '\0' && !has_prefix(text, length); units++) {
+        if (!ends_with(text, length, units->name))
             continue;
-        if (!number_decimal(text, length - strlen(units[i].name), UINT64_MAX / units[i].bytes, bytes))
+        if (!number_in(10, text, length - strlen(units->name), UINT64_MAX / units->times, number))
             return 0;
-        *bytes *= units[i].bytes;
+        *number *= units->times;
         return 1;
     }
-    return 0;
+    return number_decimal(text, length, UINT64_MAX, number);
+}
+
+int number_size(const char *text, uint64_t *bytes)
+{
+    static const struct unit units[] = {{"kib", 1024}, {"k", 1024}, {"mib", 1048576}, {"m", 1048576}, {"", 0}};
+
+    return number_with_unit(text, units, bytes);
+}
+
+int number_count(const char *text, uint64_t *count)
+{
+    static const struct unit units[] = {{"k", 1000}, {"m", 1000000}, {"g", 1000000000}, {"", 0}};
+
+    return number_with_unit(text, units, count);
 }

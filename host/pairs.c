@@ -66,7 +66,8 @@ static int is_of_form(const struct pair_form *form, struct part first, struct pa
 static int read_lines(struct part text, const char *path, const struct pair_form *form, struct pairs *pairs)
 {
     for (size_t line = 1; text.length != 0; line++) {
-        struct part rest = take_line(&text);
+        struct part whole = take_line(&text);
+        struct part rest = whole;
         struct part first = take_field(&rest);
         struct part second = take_field(&rest);
         struct pair *pair = &pairs->at[pairs->count];
@@ -74,11 +75,11 @@ static int read_lines(struct part text, const char *path, const struct pair_form
         if (first.length == 0)
             continue;
         if (take_field(&rest).length != 0 || !is_of_form(form, first, second, pair))
-            return say_bad_line(path, line, form->says);
+            return say_bad_line(&(struct place){path, line, whole.at, whole.length}, form->says);
         pair->line = line;
         pairs->count++;
     }
-    return STATUS_GOOD;
+    return pairs->count != 0 ? STATUS_GOOD : say_bad(path, form->nothing);
 }
 
 /* One pair for each line of the text, and one for a last line without its line feed. */

@@ -25,10 +25,11 @@ struct pair_form {
     uint64_t first_most;
     uint64_t second_most;
     const char *says;
+    const char *nothing; /* the message if the file has no pair */
 };
 
-/* Reads a file; failures are told, the answer is an exit status. `pairs` has to be empty before, and is the
- * caller's to free after, whatever the answer. */
+/* Reads a file, in which at least one pair has to stand; failures are told, the answer is an exit status. `pairs`
+ * has to be empty before, and is the caller's to free after, whatever the answer. */
 int pairs_read(const char *path, const struct pair_form *form, struct pairs *pairs);
 
 void pairs_free(struct pairs *pairs);

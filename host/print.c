@@ -64,13 +64,13 @@ static void print_page(uint64_t address, const uint8_t *page, size_t length)
     printf("%08" PRIX64 "\n", address + length);
 }
 
-int print_view(const struct world *world, uint64_t page)
+int print_view(const struct world *world, const char *text, uint64_t page)
 {
     struct eco32_view view =
         eco32_page_view(world->ram.at, world->ram.length, world->machine, sizeof world->machine, page);
 
     if (view.refusal != ECO32_ACCEPTED)
-        return say_refused("--view", view.refusal);
+        return say_refused("--view", text, view.refusal);
     printf("page %05" PRIX64 ", RAM offset %08" PRIX64 "\n", page, view.offset);
     print_page(page * ECO32_FRAME_LENGTH, world->ram.at + view.offset, (size_t)view.length);
     return STATUS_GOOD;

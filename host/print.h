@@ -8,7 +8,7 @@ void print_registers(const uint8_t *machine);
 
 void print_tlb(const uint8_t *machine);
 
-/* A refusal is told; the answer is an exit status. */
-int print_view(const struct world *world, uint64_t page);
+/* A refusal is told, with the page as it was given; the answer is an exit status. */
+int print_view(const struct world *world, const char *text, uint64_t page);
 
 #endif

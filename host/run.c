@@ -2,109 +2,148 @@
 
 #include "run.h"
 
+#include "eco32_text.h"
 #include "say.h"
+#include "script.h"
 #include "state.h"
+#include "stop.h"
 #include "trace.h"
 
+#include <errno.h>
 #include <inttypes.h>
 #include <stdio.h>
-#include <string.h>
 #include <unistd.h>
 
 /* Where a run stands. */
 struct progress {
-    uint64_t made;
-    uint32_t eid;   /* of the exception that ended it, or 32 */
+    uint64_t most;  /* steps of one call */
+    uint64_t shown; /* steps of the last progress line; none yet if 0 */
     size_t next;    /* the script's next line */
     uint16_t lines; /* the interrupt lines now */
-    int shown;      /* there is a progress line on the terminal */
+    int shows;      /* there are progress lines */
 };
 
-int script_read(const struct options *options, struct pairs *script)
-{
-    static const struct pair_form form = {0, UINT64_MAX, UINT16_MAX, "not a line \"STEP HEX\", with lines up to FFFF"};
-    const char *path = options->given[OPTION_LINES_SCRIPT];
-    int status = path == NULL ? STATUS_GOOD : pairs_read(path, &form, script);
-
-    for (size_t i = 0; status == STATUS_GOOD && i < script->count; i++) {
-        uint64_t before = i == 0 ? 0 : script->at[i - 1].first;
-        if (script->at[i].first <= before)
-            status = say_bad_line(path, script->at[i].line, "steps count from 1 and go up");
-    }
-    return status;
-}
-
 /* Takes the lines of the next step, and answers for how many steps they hold, within what one call may make. */
-static uint64_t next_steps(const struct options *options, const struct pairs *script, struct progress *progress)
+static uint64_t next_steps(const struct options *options, const struct pairs *script, uint64_t made,
+                           struct progress *progress)
 {
-    uint64_t steps = options->steps - progress->made;
-    uint64_t most = options->given[OPTION_TRACE] != NULL ? 1 : ECO32_MOST_STEPS;
+    uint64_t steps = options->steps - made;
 
-    while (progress->next < script->count && script->at[progress->next].first - 1 <= progress->made) {
+    for (; progress->next < script->count; progress->next++) {
+        uint64_t after = script_after(options, script, progress->next);
+        if (after > made) {
+            steps = steps < after - made ? steps : after - made;
+            break;
+        }
         progress->lines = (uint16_t)script->at[progress->next].second;
-        progress->next++;
     }
-    if (progress->next < script->count && steps > script->at[progress->next].first - 1 - progress->made)
-        steps = script->at[progress->next].first - 1 - progress->made;
-    return steps > most ? most : steps;
+    return steps > progress->most ? progress->most : steps;
 }
 
-static int call(const struct options *options, struct world *world, uint64_t steps, struct progress *progress)
+/* A refusal of the run is one of what it was lent, so that is named. */
+static int say_run_refused(const struct options *options, uint32_t refusal)
+{
+    if (refusal == ECO32_REFUSED_RAM_LENGTH && options->given[OPTION_RAM_SIZE] != NULL)
+        return say_refused("--ram-size", options->given[OPTION_RAM_SIZE], refusal);
+    if (refusal == ECO32_REFUSED_BELT_LENGTH && options->given[OPTION_BELT] != NULL)
+        return say_refused(options->given[OPTION_BELT], NULL, refusal);
+    return say_refused("run", NULL, refusal);
+}
+
+static int call(const struct options *options, struct world *world, uint64_t steps, uint16_t lines,
+                struct ending *ending)
 {
     int traced = options->given[OPTION_TRACE] != NULL;
     int until = options->given[OPTION_UNTIL_EXCEPTION] != NULL;
-    uint8_t before[ECO32_RECORD_LENGTH];
+    struct trace before;
     struct eco32_answer answer;
 
-    memcpy(before, world->machine, sizeof before);
+    if (traced)
+        trace_before(world, &before);
     /* A traced step is a run of its own, and only a run to exception names the EID. */
     answer = (traced || until ? eco32_run_to_exception : eco32_run)(
         world->machine, sizeof world->machine, world->ram.at, world->ram.length, world->rom.at, world->rom.length,
-        world->belt.at, world->belt.length, steps, progress->lines);
+        world->belt.at, world->belt.length, steps, lines);
     if (answer.refusal != ECO32_ACCEPTED)
-        return say_refused("run", answer.refusal);
-    progress->made += answer.steps;
+        return say_run_refused(options, answer.refusal);
+    ending->made += answer.steps;
     if (until)
-        progress->eid = answer.eid;
+        ending->eid = answer.eid;
     if (traced && answer.steps != 0)
-        trace_step(progress->made, answer.eid, before, world->machine);
+        trace_after(options->first_step + ending->made - 1, answer.eid, &before, world);
     return STATUS_GOOD;
 }
 
 /* A long run shows on a terminal that it goes on. */
-static void show(const struct options *options, struct progress *progress)
+static void show(const struct options *options, uint64_t made, struct progress *progress)
 {
-    if (options->steps <= ECO32_MOST_STEPS || options->given[OPTION_TRACE] != NULL || !isatty(STDERR_FILENO))
+    if (!progress->shows || (made - progress->shown < ECO32_MOST_STEPS && made != options->steps))
         return;
-    fprintf(stderr, "\reco32: %" PRIu64 " of %" PRIu64 " steps", progress->made, options->steps);
+    fprintf(stderr, "\reco32: %" PRIu64 " of %" PRIu64 " steps", made, options->steps);
     fflush(stderr);
-    progress->shown = 1;
+    progress->shown = made;
 }
 
-static void print_end(const struct options *options, const struct world *world, const struct progress *progress)
+/* A PC of --break at which the run begins does not stop it: a run that was saved there goes on from there. */
+static void look_at_pc(const struct options *options, const struct world *world, struct ending *ending)
 {
-    printf("steps %" PRIu64 ", PC %08" PRIX32 ", mode %c", progress->made, state_pc(world->machine),
+    uint32_t pc = state_pc(world->machine);
+
+    ending->reached = options->given[OPTION_UNTIL_PC] != NULL && pc == options->until_pc;
+    ending->broke = 0;
+    for (size_t i = 0; i < options->breaks.count; i++)
+        ending->broke |= ending->made != 0 && pc == options->breaks.number[i];
+}
+
+/* Whether the run ends here; a signal counts only if it does not end here anyway. A trace that nobody can read any
+ * more ends it too. */
+static int ends(const struct options *options, const struct world *world, struct ending *ending)
+{
+    look_at_pc(options, world, ending);
+    if (ending->made == options->steps || ending->eid != ECO32_NO_EXCEPTION || ending->reached || ending->broke)
+        return 1;
+    ending->signal = stop_signal();
+    if (ferror(stdout))
+        ending->unwritten = errno != 0 ? errno : EIO;
+    return ending->signal != 0 || ending->unwritten != 0;
+}
+
+static void print_end(const struct options *options, const struct world *world, const struct ending *ending)
+{
+    printf("steps %" PRIu64 ", PC %08" PRIX32 ", mode %c", ending->made, state_pc(world->machine),
            state_mode(world->machine));
-    if (progress->eid != ECO32_NO_EXCEPTION)
-        printf(", EID %02" PRIu32 " (%s)\n", progress->eid, exception_name(progress->eid));
-    else
-        printf("%s\n", options->given[OPTION_UNTIL_EXCEPTION] != NULL ? ", no exception" : "");
+    if (ending->eid != ECO32_NO_EXCEPTION)
+        printf(", EID %02" PRIu32 " (%s)", ending->eid, eco32_exception_name(ending->eid));
+    else if (options->given[OPTION_UNTIL_EXCEPTION] != NULL)
+        printf(", no exception");
+    if (options->given[OPTION_UNTIL_PC] != NULL)
+        printf(", --until-pc %08" PRIX64 " %s", options->until_pc, ending->reached ? "reached" : "not reached");
+    if (ending->broke)
+        printf(", stopped by --break");
+    printf("%s\n", ending->signal != 0 ? ", stopped by a signal" : "");
 }
 
-int run(const struct options *options, const struct pairs *script, struct world *world)
+int run(const struct options *options, const struct pairs *script, struct world *world, struct ending *ending)
 {
-    struct progress progress = {0, ECO32_NO_EXCEPTION, 0, options->lines, 0};
+    int by_step = options->given[OPTION_TRACE] != NULL || options->given[OPTION_BREAK] != NULL ||
+                  options->given[OPTION_UNTIL_PC] != NULL;
+    struct progress progress = {by_step ? 1 : ECO32_MOST_STEPS, 0, 0, options->lines, 0};
     int status;
 
-    /* A run of no steps is a call too, for its refusals. A trace that nobody can read any more ends early. */
-    do {
-        status = call(options, world, next_steps(options, script, &progress), &progress);
-        show(options, &progress);
-    } while (status == STATUS_GOOD && progress.made < options->steps && progress.eid == ECO32_NO_EXCEPTION &&
-             !ferror(stdout));
-    if (progress.shown)
+    progress.shows = options->steps > ECO32_MOST_STEPS && options->given[OPTION_TRACE] == NULL && isatty(STDERR_FILENO);
+    *ending = (struct ending){0, ECO32_NO_EXCEPTION, 0, 0, 0, 0};
+    stop_prepare();
+    errno = 0;
+    /* A run of no steps is a call too, for its refusals. */
+    status = call(options, world, 0, 0, ending);
+    while (status == STATUS_GOOD && !ends(options, world, ending)) {
+        uint64_t steps = next_steps(options, script, ending->made, &progress);
+        status = call(options, world, steps, progress.lines, ending);
+        show(options, ending->made, &progress);
+    }
+    if (progress.shown != 0)
         fputc('\n', stderr);
     if (status == STATUS_GOOD)
-        print_end(options, world, &progress);
+        print_end(options, world, ending);
     return status;
 }

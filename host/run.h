@@ -6,10 +6,18 @@
 #include "pairs.h"
 #include "world.h"
 
-/* Reads the lines script, if there is one. Failures are told; the answer is an exit status. */
-int script_read(const struct options *options, struct pairs *script);
+/* How a run ended. */
+struct ending {
+    uint64_t made; /* steps */
+    uint32_t eid;  /* of the exception that ended it, or 32 */
+    int reached;   /* it stands at the PC of --until-pc */
+    int broke;     /* it stands at a PC of --break, to which it came */
+    int signal;    /* the one that stopped it before its end, or 0 */
+    int unwritten; /* the errno of standard output, which stopped it before its end, or 0 */
+};
 
-/* Makes the steps and prints a line about them. Failures are told; the answer is an exit status. */
-int run(const struct options *options, const struct pairs *script, struct world *world);
+/* Makes the steps and prints a line about them. Failures are told; the answer is an exit status, STATUS_GOOD
+ * whichever way the run ended. */
+int run(const struct options *options, const struct pairs *script, struct world *world, struct ending *ending);
 
 #endif

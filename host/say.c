@@ -1,43 +1,60 @@
 #include "say.h"
 
-#include "eco32.h"
+#include "eco32_text.h"
 
 #include <inttypes.h>
 #include <stdio.h>
+#include <string.h>
 
-static const char *cause(uint32_t refusal)
+/* More of a line is not repeated. */
+#define TEXT_SHOWN 60
+
+/* A text from outside, with a question mark for each control byte, so that a message stays one line. */
+static void put(const char *text, size_t length)
 {
-    switch (refusal) {
-    case ECO32_REFUSED_RAM_LENGTH:
-        return "RAM is no multiple of 4096 bytes, from 4096 to 536870912";
-    case ECO32_REFUSED_ROM_LENGTH:
-        return "ROM is no multiple of 4096 bytes, from 4096 to 268435456";
-    case ECO32_REFUSED_BELT_LENGTH:
-        return "the belt is not 1024 bytes";
-    case ECO32_REFUSED_RECORD_LENGTH:
-        return "the machine record has the wrong length";
-    case ECO32_REFUSED_KIND_BYTE:
-        return "a kind byte of the machine record is not in its place";
-    case ECO32_REFUSED_UNFIT_MACHINE:
-        return "the machine record is of no machine: register 0, the replacement index or a bit never kept";
-    case ECO32_REFUSED_STEPS:
-        return "more steps than one call may make";
-    case ECO32_REFUSED_PAGE:
-        return "no RAM frame is behind that page";
-    default:
-        return "the library names a cause that this host does not know";
+    for (size_t i = 0; i < length; i++)
+        fputc((unsigned char)text[i] < 32 || text[i] == 127 ? '?' : text[i], stderr);
+}
+
+static void put_quoted(const char *text, size_t length)
+{
+    fputc('\'', stderr);
+    put(text, length);
+    fputc('\'', stderr);
+}
+
+static void begin(const char *subject, const char *value)
+{
+    fputs("eco32: ", stderr);
+    if (subject[0] == '\0')
+        fputs("''", stderr);
+    put(subject, strlen(subject));
+    if (value != NULL) {
+        fputc(' ', stderr);
+        put_quoted(value, strlen(value));
     }
+    fputs(": ", stderr);
 }
 
 int say_bad(const char *subject, const char *message)
 {
-    fprintf(stderr, "eco32: %s: %s\n", subject[0] == '\0' ? "''" : subject, message);
+    return say_bad_value(subject, NULL, message);
+}
+
+int say_bad_value(const char *option, const char *value, const char *message)
+{
+    begin(option, value);
+    fprintf(stderr, "%s\n", message);
     return STATUS_BAD;
 }
 
-int say_bad_line(const char *path, size_t line, const char *message)
+int say_bad_line(const struct place *place, const char *message)
 {
-    fprintf(stderr, "eco32: %s:%zu: %s\n", path, line, message);
+    fputs("eco32: ", stderr);
+    put(place->path, strlen(place->path));
+    fprintf(stderr, ":%zu: ", place->line);
+    put_quoted(place->text, place->length < TEXT_SHOWN ? place->length : TEXT_SHOWN);
+    fprintf(stderr, ": %s\n", message);
     return STATUS_BAD;
 }
 
@@ -47,8 +64,14 @@ int say_no_memory(void)
     return STATUS_BAD;
 }
 
-int say_refused(const char *what, uint32_t refusal)
+int say_refused(const char *subject, const char *value, uint32_t refusal)
 {
-    fprintf(stderr, "eco32: %s: refused (%" PRIu32 "): %s\n", what, refusal, cause(refusal));
+    begin(subject, value);
+    fprintf(stderr, "refused (%" PRIu32 "): %s\n", refusal, eco32_refusal_text(refusal));
     return STATUS_REFUSED + (int)refusal;
+}
+
+void say_stopped(const char *cause, const char *more, uint64_t steps, const char *rest)
+{
+    fprintf(stderr, "eco32: %s%s: stopped after %" PRIu64 " steps%s\n", cause, more, steps, rest);
 }

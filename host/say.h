@@ -1,4 +1,4 @@
-/* Messages to standard error, and the exit statuses that go with them. */
+/* Messages to standard error, one line each, and the exit statuses that go with them. */
 #ifndef HOST_SAY_H
 #define HOST_SAY_H
 
@@ -7,21 +7,37 @@
 
 enum status {
     STATUS_GOOD = 0,
-    STATUS_DIFFERS = 1, /* a compared word differs */
-    STATUS_BAD = 2,     /* wrong usage, or a file that cannot be used */
-    STATUS_REFUSED = 10 /* plus the refusal number */
+    STATUS_DIFFERS = 1,     /* a compared word differs */
+    STATUS_BAD = 2,         /* wrong usage, or a file that cannot be used */
+    STATUS_NOT_REACHED = 3, /* the run ended elsewhere than at the PC of --until-pc */
+    STATUS_REFUSED = 10,    /* plus the refusal number */
+    STATUS_SIGNAL = 128     /* plus the signal that stopped the run */
 };
 
-/* "eco32: SUBJECT: MESSAGE". Answers STATUS_BAD. */
+/* A place in a text file, with what stands there. */
+struct place {
+    const char *path;
+    size_t line; /* from 1 */
+    const char *text;
+    size_t length;
+};
+
+/* "eco32: SUBJECT: MESSAGE", where the subject is an option or a file. Answers STATUS_BAD. */
 int say_bad(const char *subject, const char *message);
 
-/* "eco32: PATH:LINE: MESSAGE". Answers STATUS_BAD. */
-int say_bad_line(const char *path, size_t line, const char *message);
+/* "eco32: OPTION 'VALUE': MESSAGE". Answers STATUS_BAD. */
+int say_bad_value(const char *option, const char *value, const char *message);
+
+/* "eco32: PATH:LINE: 'TEXT': MESSAGE". Answers STATUS_BAD. */
+int say_bad_line(const struct place *place, const char *message);
 
 /* Answers STATUS_BAD. */
 int say_no_memory(void);
 
-/* Says what was refused, by which number and why. Answers STATUS_REFUSED plus the number. */
-int say_refused(const char *what, uint32_t refusal);
+/* Says what was refused, by which number and why; `value` may be null. Answers STATUS_REFUSED plus the number. */
+int say_refused(const char *subject, const char *value, uint32_t refusal);
+
+/* "eco32: CAUSE: stopped after STEPS steps", and what else is to say. The cause comes in two parts. */
+void say_stopped(const char *cause, const char *more, uint64_t steps, const char *rest);
 
 #endif

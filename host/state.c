@@ -52,15 +52,3 @@ const char *special_name(enum special special)
 
     return names[special];
 }
-
-const char *exception_name(uint32_t eid)
-{
-    static const char *const names[] = {
-        "bus timeout", "illegal instruction", "privileged instruction", "division by zero", "trap",
-        "TLB miss", "TLB write", "TLB invalid", "illegal address", "privileged address",
-    };
-
-    if (eid < 16)
-        return "interrupt";
-    return eid - 16 < sizeof names / sizeof names[0] ? names[eid - 16] : "unknown";
-}

@@ -21,7 +21,4 @@ char state_mode(const uint8_t *machine);
 
 const char *special_name(enum special special);
 
-/* What an exception is, in words. */
-const char *exception_name(uint32_t eid);
-
 #endif

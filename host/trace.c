@@ -1,10 +1,28 @@
 #include "trace.h"
 
-#include "eco32.h"
+#include "mapping.h"
+#include "eco32_text.h"
 #include "state.h"
 
 #include <inttypes.h>
 #include <stdio.h>
+#include <string.h>
+
+#define OPCODE_STW 0x35
+#define OPCODE_STB 0x37
+#define INTERRUPTS 16
+
+void trace_before(const struct world *world, struct trace *before)
+{
+    const uint8_t *word = NULL;
+    uint32_t physical;
+
+    memcpy(before->machine, world->machine, sizeof before->machine);
+    if (mapping_find(before->machine, state_pc(before->machine), 4, &physical))
+        word = world_word(world, physical);
+    before->has_word = word != NULL;
+    before->word = word == NULL ? 0 : word_at(word);
+}
 
 static void trace_registers(const uint8_t *before, const uint8_t *after)
 {
@@ -30,14 +48,56 @@ static void trace_tlb(const uint8_t *before, const uint8_t *after)
         printf(" replacement=%" PRIu32, state_replacement(after));
 }
 
-void trace_step(uint64_t step, uint32_t eid, const uint8_t *before, const uint8_t *after)
+/* Bytes that an instruction stores; 0 if it is no STW, STH or STB. */
+static unsigned store_width(uint32_t word)
 {
-    printf("%" PRIu64 " %08" PRIX32 " %c ", step, state_pc(after), state_mode(after));
+    unsigned opcode = word >> 26;
+
+    return opcode < OPCODE_STW || opcode > OPCODE_STB ? 0 : 4U >> (opcode - OPCODE_STW);
+}
+
+/* The instruction word says that a step stores, and where: comparing memory before and after would not show a store
+ * of the bytes that are there already, and would cost a pass over RAM. The bytes shown are those that stand there
+ * after the step: a store to ROM shows what ROM has kept. */
+static void trace_store(const struct trace *before, const struct world *world)
+{
+    unsigned width = store_width(before->word);
+    uint32_t base = state_register(before->machine, before->word >> 21 & 31);
+    uint32_t offset = (before->word & 0xFFFF) ^ 0x8000;
+    uint32_t address = base + offset - 0x8000;
+    const uint8_t *word = NULL;
+    uint32_t physical;
+
+    if (width != 0 && mapping_find(before->machine, address, width, &physical))
+        word = world_word(world, physical & ~3U);
+    if (word == NULL)
+        return;
+    printf(" [%08" PRIX32 "]=", address);
+    for (unsigned i = 0; i < width; i++)
+        printf("%02X", word[physical % 4 + i]);
+    printf(" (%s %08" PRIX32 ")", world_part(physical), physical);
+}
+
+void trace_after(uint64_t step, uint32_t eid, const struct trace *before, const struct world *world)
+{
+    uint32_t pc = state_pc(before->machine);
+    uint32_t next = state_pc(world->machine);
+
+    printf("%" PRIu64 " %08" PRIX32 " ", step, pc);
+    if (before->has_word && eid >= INTERRUPTS)
+        printf("%08" PRIX32, before->word);
+    else
+        printf("--------");
+    printf(" %c ", state_mode(before->machine));
     if (eid == ECO32_NO_EXCEPTION)
         printf("--");
     else
-        printf("%02" PRIu32, eid);
-    trace_registers(before, after);
-    trace_tlb(before, after);
+        printf("%02" PRIu32 " (%s)", eid, eco32_exception_name(eid));
+    trace_registers(before->machine, world->machine);
+    trace_tlb(before->machine, world->machine);
+    if (eid == ECO32_NO_EXCEPTION)
+        trace_store(before, world);
+    if (next != pc + 4)
+        printf(" PC=%08" PRIX32, next);
     putchar('\n');
 }

@@ -2,9 +2,19 @@
 #ifndef HOST_TRACE_H
 #define HOST_TRACE_H
 
-#include <stdint.h>
+#include "world.h"
 
-/* Prints the step, the PC after it, the mode, the EID, and what changed in the processor beside the PC. */
-void trace_step(uint64_t step, uint32_t eid, const uint8_t *before, const uint8_t *after);
+/* What the line needs from before the step. */
+struct trace {
+    uint8_t machine[ECO32_RECORD_LENGTH];
+    uint32_t word; /* at the PC */
+    int has_word;  /* 0 where a fetch faults */
+};
+
+void trace_before(const struct world *world, struct trace *before);
+
+/* Prints the step's number, its PC, the word there or --------, the mode that it was made in, EID and name or --, what
+ * changed in the processor, a store, and the PC after it unless that is the next word's. */
+void trace_after(uint64_t step, uint32_t eid, const struct trace *before, const struct world *world);
 
 #endif

@@ -17,12 +17,12 @@ struct world {
  * after, whatever the answer. */
 int world_make(const struct options *options, struct world *world);
 
-/* Writes the files that the options name. Failures are told; the answer is an exit status. */
-int world_write(const struct options *options, const struct world *world);
-
 void world_free(struct world *world);
 
 /* The word at a physical address, or null where no word of RAM, ROM or belt is. */
 const uint8_t *world_word(const struct world *world, uint64_t physical);
+
+/* Which of the three a physical address that has a word is in: "RAM", "ROM" or "belt". */
+const char *world_part(uint64_t physical);
 
 #endif

@@ -1,5 +1,6 @@
 /*
- * eco32.h - a model of the ECO32 processor, to be linked from libeco32.a.
+ * eco32.h - a model of the ECO32 processor, to be linked from libeco32.a or
+ * libeco32.so.
  *
  * One machine is one ECO32 processor with RAM, ROM and 256 belt registers.
  * The library keeps nothing between calls: the processor travels as a machine
@@ -19,6 +20,8 @@
  * fault is an event of the modelled processor.
  *
  * Words in records, ROM and RAM images and belt registers are big-endian.
+ *
+ * eco32_text.h has words for the numbers that the calls answer.
  */
 #ifndef ECO32_H
 #define ECO32_H
@@ -30,11 +33,45 @@
 extern "C" {
 #endif
 
+/* The version of library and host. It stands here alone: all else that names it
+ * is made from these lines. A program that was written for one version may need
+ * changes for a later one if the major number is another, or, as long as that is
+ * 0, the minor number. */
+#define ECO32_VERSION_MAJOR 0
+#define ECO32_VERSION_MINOR 2
+#define ECO32_VERSION_PATCH 0
+#define ECO32_VERSION "0.2.0"
+
+/* The number N in libeco32.so.N, the name of the shared library. It goes up with
+ * the first version in which a program that was linked before would no longer
+ * run right: a struct has another layout, a record another length or other
+ * places, a call other parameters, or one is gone. It also goes up with the
+ * major number. */
+#define ECO32_ABI 1
+
 /* Length of a machine record. Its items, in this order, each behind its kind
  * byte: 01, registers 0 to 31 (128 bytes); 02, PC (4); 03, PSW, TLB Index,
  * Entry High, Entry Low, Bad Address (20); 04, 32 TLB entries of high word and
  * low word (256); 05, the replacement index (1). */
 #define ECO32_RECORD_LENGTH 414
+
+/* Where these stand in a record. All but the replacement index are words. */
+#define ECO32_RECORD_REGISTERS 1     /* register i stands 4 * i further */
+#define ECO32_RECORD_PC 130
+#define ECO32_RECORD_PSW 135
+#define ECO32_RECORD_TLB_INDEX 139
+#define ECO32_RECORD_ENTRY_HIGH 143
+#define ECO32_RECORD_ENTRY_LOW 147
+#define ECO32_RECORD_BAD_ADDRESS 151
+#define ECO32_RECORD_TLB 156         /* entry i stands 8 * i further: high word, low word */
+#define ECO32_RECORD_REPLACEMENT 413 /* one byte */
+
+/* Where the kind bytes 01 to 05 stand. */
+#define ECO32_RECORD_KIND_REGISTERS 0
+#define ECO32_RECORD_KIND_PC 129
+#define ECO32_RECORD_KIND_SPECIAL 134
+#define ECO32_RECORD_KIND_TLB 155
+#define ECO32_RECORD_KIND_REPLACEMENT 412
 
 /* RAM and ROM lengths are multiples of 4,096 within these bounds. RAM stands at
  * physical 00000000, ROM at 20000000. */

@@ -4,7 +4,7 @@ use crate::common::{get, put, Numbers, Rig};
 use eco32_reference::asm::{j, tbwi};
 use eco32_reference::belt::barcode::KNOWN_CODES;
 use eco32_reference::belt::layout::*;
-use eco32_reference::belt::{rom, Images};
+use eco32_reference::belt::{ram, rom, Images};
 use eco32_reference::builder::Builder;
 use eco32_reference::{page_view, Processor, NO_EXCEPTION};
 use std::process::Command;
@@ -35,7 +35,7 @@ fn packs() -> Vec<u32> {
 fn cell(rom: Vec<u8>, codes: &[u32]) -> Rig {
     let mut cell = Rig {
         cpu: Processor::reset(),
-        ram: vec![0xEE; RAM_FRAMES as usize * FRAME_LENGTH],
+        ram: ram(),
         rom,
         belt: vec![0; 1024],
     };
@@ -335,7 +335,7 @@ fn both_images_have_one_kernel() {
     assert_ne!(honest[FRAME_LENGTH..], hostile[FRAME_LENGTH..]);
 }
 
-/// The machine record as `examples/belt/run.c` prints it.
+/// The machine record as `examples/belt/machine.c` prints it.
 fn record_text(cpu: &Processor) -> String {
     let mut lines = vec!["machine record".to_string()];
     for (n, row) in cpu.registers.chunks(8).enumerate() {
@@ -362,8 +362,8 @@ fn record_text(cpu: &Processor) -> String {
 /// of the exceptions, the count, and the machine record.
 #[test]
 fn the_simulator_gives_what_the_model_prints() {
-    let printed = std::fs::read_to_string(format!("{EXAMPLE}/expected.txt")).unwrap();
-    let second = printed.find("examples/belt/belt_hostile.rom").unwrap();
+    let printed = std::fs::read_to_string(format!("{EXAMPLE}/expected_state.txt")).unwrap();
+    let second = printed.find("examples/belt/belt_hostile.rom: ").unwrap();
     let parts = [&printed[..second], &printed[second..]];
     for (part, image) in parts.into_iter().zip([honest(), hostile()]) {
         let mut cell = cell(image, &packs());
@@ -373,9 +373,11 @@ fn the_simulator_gives_what_the_model_prints() {
         let made: Vec<u64> = events.iter().map(|event| event.0).collect();
         assert_eq!(steps.collect::<Vec<u64>>(), made);
         let (packs, rejects) = count(&cell);
-        assert!(part.contains(&format!(
-            "count's frame: packs {packs}, rejects {rejects}\n"
-        )));
+        let accepted = packs - rejects;
+        assert!(
+            part.contains(&format!("counted {packs}: {accepted} accepted, {rejects} rejected.\n"))
+                || part.contains(&format!("count's frame: packs {packs}, rejects {rejects}\n"))
+        );
         assert!(
             part.contains(&record_text(&cell.cpu)),
             "{}",

@@ -1,7 +1,8 @@
 /* Runs a program with a terminal as its standard error, and copies what comes there to standard output, a
- * carriage return as \r. */
+ * carriage return as \r. If ECO32_SIGNAL is set, the program gets that signal when the first byte came. */
 #define _XOPEN_SOURCE 600
 #include <fcntl.h>
+#include <signal.h>
 #include <stdio.h>
 #include <stdlib.h>
 #include <sys/wait.h>
@@ -20,6 +21,7 @@ static void become(const char *terminal, char **words)
 int main(int count, char **words)
 {
     int fd = posix_openpt(O_RDWR | O_NOCTTY);
+    const char *signal = getenv("ECO32_SIGNAL");
     int status = 0;
     char byte;
     pid_t child;
@@ -33,6 +35,9 @@ int main(int count, char **words)
         become(ptsname(fd), words + 1);
     /* The read fails once the child has closed the terminal. */
     while (read(fd, &byte, 1) == 1) {
+        if (signal != NULL)
+            kill(child, atoi(signal));
+        signal = NULL;
         if (byte == '\r')
             fputs("\\r", stdout);
         else

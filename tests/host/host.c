@@ -65,7 +65,7 @@ static void runs(void)
     load_program(&w);
     a = run(&w, sizeof w.ram, 3);
     check(a.refusal == ECO32_ACCEPTED && a.steps == 3 && a.eid == ECO32_NO_EXCEPTION, "a plain run of 3 steps");
-    check(get_word(w.machine + 130) == 0xE000000C, "the PC after 3 steps");
+    check(get_word(w.machine + ECO32_RECORD_PC) == 0xE000000C, "the PC after 3 steps");
     check(get_word(w.ram) == 5, "the word that was stored");
 
     load_program(&w);
@@ -87,10 +87,10 @@ static void refusals(void)
     a = run(&w, sizeof w.ram, (uint64_t)1 << 40);
     check(a.refusal == ECO32_REFUSED_STEPS, "too many steps");
     check(memcmp(&w, &before, sizeof w) == 0, "a refused call leaves every byte");
-    w.machine[0] = 9;
+    w.machine[ECO32_RECORD_KIND_REGISTERS] = 9;
     check(run(&w, sizeof w.ram, 1).refusal == ECO32_REFUSED_KIND_BYTE, "a wrong kind byte");
-    w.machine[0] = 1;
-    w.machine[413] = 3;
+    w.machine[ECO32_RECORD_KIND_REGISTERS] = 1;
+    w.machine[ECO32_RECORD_REPLACEMENT] = 3;
     check(run(&w, sizeof w.ram, 1).refusal == ECO32_REFUSED_UNFIT_MACHINE, "an unfit machine");
 }
 

@@ -1,16 +1,17 @@
 -- A read by what its translation came to: a fault, or what the load at the physical address brought.
 use mathlib.Core.Path.{_≡_, refl, ap, sym, _∙_}
 use mathlib.Core.Bool.{false}
-use Prim.Native.Nat.{ℕ}
+use Prim.Native.Nat.{ℕ, _<_}
 use Rattle.translation.specs.Translation.{translated, translationEid}
 use Rattle.translation.specs.declared.Translation.{Translation}
 use Rattle.translation.specs.declared.Translation.the-variants.{Physical}
-use Rattle.translation.proofs.Resolved.{IsFault, at-fault}
+use Rattle.translation.proofs.Resolved.{IsFault, at-fault, at-number}
 use Rattle.memory.specs.Map.{Memory}
-use Rattle.memory.specs.Access.{loadOf}
+use Rattle.memory.specs.Access.{loadOf, loadedEid, loadedValue}
 use Rattle.memory.specs.declared.Loaded.{Loaded}
+use Rattle.memory.specs.declared.Loaded.the-variants as loaded
 use Rattle.instructions.specs.Operands.{Surroundings}
-use Rattle.access.specs.Reads.{answered, readThrough, readFrom}
+use Rattle.access.specs.Reads.{answered, readThrough, readFrom, readEid, readValue}
 use Rattle.access.specs.declared.Read.{Read}
 use Rattle.access.specs.declared.Read.the-variants.{Fault}
 
@@ -27,3 +28,25 @@ module _ (width : ℕ) (s : Surroundings) (address : ℕ) {t : Translation}
   pub to-a-load : {x : ℕ} {l : Loaded} {r : Read} → t ≡ Physical x → l ≡ loadOf width (s .memory) x → r ≡ answered l → r ≡ readFrom width s address
   unfolding readFrom
   to-a-load f g h = h ∙ ap answered g ∙ sym (ap (readThrough width (s .memory)) (sym e ∙ f))
+
+-- ---- the numbers of a read: those of its translation's fault, or of the load at the physical address
+
+answered-numbers : (l : Loaded) → (readEid (answered l) ≡ loadedEid l) × (readValue (answered l) ≡ loadedValue l)
+answered-numbers (loaded.Value v) = (refl, refl)
+answered-numbers loaded.Timeout = (refl, refl)
+
+module _ (width : ℕ) (s : Surroundings) (address : ℕ) where
+  abbrev place : Translation
+  place = translated (s .psw) (s .highs) (s .lows) width false address
+
+  pub read-names-the-fault : translationEid place < 32 → readEid (readFrom width s address) ≡ translationEid place
+  unfolding readFrom
+  read-names-the-fault h = ap readEid (sym (at-number _ Fault place h))
+
+  pub read-as-the-load : (x : ℕ) → place ≡ Physical x
+      → (readEid (readFrom width s address) ≡ loadedEid (loadOf width (s .memory) x))
+      × (readValue (readFrom width s address) ≡ loadedValue (loadOf width (s .memory) x))
+  read-as-the-load x e =
+      let same : answered (loadOf width (s .memory) x) ≡ readFrom width s address = to-a-load width s address refl e refl refl in
+      let numbers = answered-numbers (loadOf width (s .memory) x) in
+      (ap readEid (sym same) ∙ numbers .0, ap readValue (sym same) ∙ numbers .1)

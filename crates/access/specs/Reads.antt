@@ -1,6 +1,7 @@
 -- Reading through the translation (manual, 3.2 and 3.5).
 use mathlib.Core.Bool.{false}
 use Prim.Native.Nat.{ℕ}
+use Rattle.words.specs.Identifiers.{noException}
 use Rattle.translation.specs.Translation.{translated, resolved}
 use Rattle.translation.specs.declared.Translation.{Translation}
 use Rattle.memory.specs.Map.{Memory}
@@ -23,3 +24,12 @@ readThrough width m t = resolved (λ address. answered (loadOf width m address))
 -- the byte, half-word or word at a virtual address
 unfoldable pub readFrom : ℕ → Surroundings → ℕ → Read
 readFrom width s address = readThrough width (s .memory) (translated (s .psw) (s .highs) (s .lows) width false address)
+
+-- the numbers of an answer: the exception that it names, or `noException`; and what was read, 0 where it faults
+abbrev pub readEid : Read → ℕ
+readEid (Value v) = noException
+readEid (Fault eid) = eid
+
+abbrev pub readValue : Read → ℕ
+readValue (Value v) = v
+readValue (Fault eid) = 0

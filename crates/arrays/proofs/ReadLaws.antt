@@ -7,6 +7,7 @@ use native.Mathlib.Omega.{arith}
 use lib.ListN.{length, getD, take, drop, length-drop}
 use lib.Seq.{take-suc, take-add, drop-drop, drop-at, getD-drop, getD-at}
 use Rattle.endian.specs.BigEndian.{readAt}
+use Rattle.endian.proofs.Widths.{read-lt}
 use Rattle.arrays.specs.Numbers.{bytesOf, wordBytes, pairBytes, wordsAt}
 use Rattle.arrays.proofs.WriteLaws.{bytes-length}
 
@@ -114,3 +115,17 @@ module _ (s : List ℕ) (h : (j : ℕ) → getD s j 0 < 256) where
 
     pub pairs-join : (k : ℕ) → n + k * 8 ≤ length s → a ++ pairBytes (wordsAt k s n 8) (wordsAt k s (n + 4) 8) ≡ take (n + k * 8) s
     pairs-join k h = join (k * 8) (pairs-back k n h)
+
+-- ---- words in bytes: so many, and each of 32 bits
+
+module _ (s : List ℕ) (h : (j : ℕ) → getD s j 0 < 256) (stride : ℕ) where
+  pub words-count : (n at : ℕ) → length (wordsAt n s at stride) ≡ n
+  unfolding wordsAt
+  words-count zero at = refl
+  words-count (suc n) at = ap suc (words-count n (at + stride))
+
+  pub words-lt : (n at i : ℕ) → getD (wordsAt n s at stride) i 0 < 2 ^ 32
+  unfolding wordsAt
+  words-lt zero at i = omega arith
+  words-lt (suc n) at zero = omega (arith, read-lt 4 s at h)
+  words-lt (suc n) at (suc i) = words-lt n (at + stride) i

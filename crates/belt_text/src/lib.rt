@@ -1,8 +1,10 @@
 // The line of a step, and a text in a buffer (document 01, "Cases", `beltrun`).
+use processor::Processor;
 ghost use mathlib.Core.Bool.{cond};
 ghost use mathlib.Core.Path.{_≡_};
 ghost use Prim.Native.Nat.{_%_, _+_, _≤_};
 ghost use lib.Dec.{ltb};
+ghost use Rattle.words.specs.Identifiers.{noException};
 ghost use Rattle.belt_text.specs.Line.{hexDigit, decimalDigit, lineOf};
 ghost use lib.ListN.{length};
 ghost use lib.Seq.{paste};
@@ -30,9 +32,9 @@ fn decimal_digit(n: u32) -> u8
 
 // A digit of an EID, or a dash where there is none.
 fn eid_digit(eid: u32, n: u32) -> u8
-    ensures { λ r. ⌜ r ≡ cond (ltb eid 32) (decimalDigit n) 45 ⌝ }
+    ensures { λ r. ⌜ r ≡ cond (ltb eid noException) (decimalDigit n) 45 ⌝ }
 {
-    if eid < 32 {
+    if eid < Processor::NO_EXCEPTION {
         return decimal_digit(n);
     }
     b'-'

@@ -8,7 +8,7 @@ use Rattle.sums.specs.Sums.{sum, difference, signedProduct, unsignedProduct}
 use Rattle.quotients.specs.Quotients.{signedQuotient, unsignedQuotient, signedRemainder, unsignedRemainder}
 use Rattle.bitwise.specs.Bitwise.{and, or, xor, xnor}
 use Rattle.shifts.specs.Shifts.{shiftLeft, shiftRight, shiftArithmetic, loadHigh}
-use Rattle.instructions.specs.Operands.{Operands, Simple, immediateS, immediateZ, intoR, intoY, fault, illegal}
+use Rattle.instructions.specs.Operands.{Simple, immediateS, immediateZ, intoR, intoY, fault, illegal}
 use Rattle.instructions.specs.Action.{Action}
 
 -- a divisor of 0 faults

@@ -1,15 +1,14 @@
 -- Every entry point comes to the same run: what an exported run reads from the record is the machine, and so is what it hands back.
-use mathlib.Core.Path.{_≡_, refl, ap, sym, _∙_}
+use mathlib.Core.Path.{_≡_, refl, ap}
 use mathlib.Core.Bool.{Bool, true, false, cond}
-use mathlib.Core.List.{List, []}
+use mathlib.Core.List.{List}
 use Prim.Native.Nat.{ℕ, _^_, _≤_, _<_}
 use native.Mathlib.Omega.{arith}
 use lib.Dec.{eqb}
 use lib.ListN.{length, getD, List·getD-eq-default}
 use borrow.Author.Tests.{eq-eqb}
 use Rattle.words.proofs.Cases.{below-or-not}
-use Rattle.memory.specs.Map.{Memory}
-use Rattle.record_layout.specs.Record.{recordOf, kindsInPlace, processorOf}
+use Rattle.record_layout.specs.Record.{recordOf, kindsInPlace}
 use Rattle.record_layout.proofs.KindLaws.{means-kinds}
 use Rattle.record_layout.proofs.Written.{record-length}
 use Rattle.record.proofs.WrittenRead.{Value, holds}
@@ -19,7 +18,7 @@ use Rattle.run_loop.specs.Run.{Request, Outcome, stepsOf, runFrom, refused, run
 use Rattle.run_loop.proofs.Loop.{run-is}
 use Rattle.run_loop.proofs.Kept.{run-representable}
 use Rattle.run_calls.specs.Runs.{machineIn, recorded, called, callRefusal, callSteps, callOf}
-use Rattle.isolation.specs.Trace.{EntryPoint, ByValue, Exported, Call, handedBack, outcomeBy, stepsBy, machines, callOutcome, callTrace}
+use Rattle.isolation.specs.Trace.{EntryPoint, ByValue, Exported, Call, handedBack, outcomeBy, stepsBy, madeWith, callOutcome, callTrace}
 
 -- ---- the record of a machine holds the machine
 
@@ -27,7 +26,7 @@ everywhere : (l : List ℕ) → Words32 l → (i : ℕ) → getD l i 0 < 2 ^ 32
 everywhere l w i =
     below-or-not i 32 (λ h. w .1 i h) (λ h. let past : length l ≤ i = omega (arith, w .0) in rw (List·getD-eq-default l 0 past) (omega arith))
 
-value : (m : Machine) → Representable m → Value (m .processor)
+pub value : (m : Machine) → Representable m → Value (m .processor)
 value m r =
     record {
       arrays = record { registers = r .registers .0; highs = r .tlbhigh .0; lows = r .tlblow .0 };
@@ -51,7 +50,7 @@ module _ (m : Machine) (r : Representable m) where
   machine-is = λ i. record { processor = holds (m .processor) (value m r) .1 i; memory = m .memory }
 
   -- only fitness can be missing in it
-  refusal-is : (wanted : ℕ) → callRefusal s (m .memory) wanted ≡ runRefusal m wanted
+  pub refusal-is : (wanted : ℕ) → callRefusal s (m .memory) wanted ≡ runRefusal m wanted
   unfolding callRefusal runRefusal
   refusal-is wanted =
       let kinds : kindsInPlace s ≡ true = means-kinds s (holds (m .processor) (value m r) .0) in
@@ -94,6 +93,6 @@ module _ (c : Call) (m : Machine) (r : Representable m) where
   unfolding callOutcome
   outcome-is = outcome-by (c .entry) (c .request) m r
 
-  pub trace-is : callTrace c m ≡ machines (stepsOf (c .request) m)
+  pub trace-is : callTrace c m ≡ madeWith (c .request .lines) (stepsOf (c .request) m)
   unfolding callTrace
-  trace-is = ap machines (steps-by (c .entry) (c .request) m r)
+  trace-is = ap (madeWith (c .request .lines)) (steps-by (c .entry) (c .request) m r)

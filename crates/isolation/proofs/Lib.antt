@@ -9,3 +9,4 @@ pub mod Entries
 pub mod Lift
 pub mod Runs
 pub mod Isolation
+pub mod ListLaws

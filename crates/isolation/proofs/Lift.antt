@@ -1,29 +1,24 @@
 -- From one step to the steps of a run, from two machines that are alike.
-use mathlib.Core.Path.{_≡_, refl, ap, ap₂, sym, subst, _∙_}
-use mathlib.Core.Bool.{Bool, true, false, cond, true≢false}
-use mathlib.Core.List.{List, [], _∷_, _++_}
-use Prim.Native.Nat.{ℕ, zero, suc, _%_, _≤_}
+use mathlib.Core.Path.{_≡_, refl, ap, sym, subst}
+use mathlib.Core.Bool.{Bool, true, false, cond}
+use mathlib.Core.List.{List, [], _∷_}
+use Prim.Native.Nat.{ℕ, zero, suc}
 use native.Mathlib.Omega.{arith}
-use lib.Dec.{eqb, leb}
-use lib.ListN.{length}
-use borrow.Author.Tests.{eqb-true, leb-true}
-use Rattle.words.proofs.Conjunction.{both-true}
 use Rattle.memory.specs.Map.{Memory}
 use Rattle.memory.proofs.OwnBytes.{Apart, accepted-apart}
 use Rattle.memory.proofs.StoreLaws.{store-lengths}
-use Rattle.processor.specs.State.{fit}
 use Rattle.status.specs.Psw.{userMode}
 use Rattle.processor.specs.declared.Processor.{Processor}
 use Rattle.instructions.specs.Action.{Action, Write, Store, System, Exception}
 use Rattle.machine.specs.Machine.{Machine, Representable}
 use Rattle.actions.specs.Actions.{storeWidth}
 use Rattle.step.specs.Step.{look, memoryDone, Stepped, stepOf}
-use Rattle.refusals.specs.Refusal.{pagesUpTo, runTests, runRefusal}
+use Rattle.refusals.specs.Refusal.{runTests, runRefusal}
 use Rattle.refusals.proofs.FirstFailed.{all-pass}
+use Rattle.refusals.proofs.Lengths.{ram-accepted, rom-accepted}
 use Rattle.run_loop.specs.Run.{Request, ends, stepsFrom}
 use Rattle.step.proofs.StepRepresentable.{step-representable}
-use Rattle.isolation.specs.Frames.{Reached, SameIn}
-use Rattle.isolation.specs.Trace.{inUserMode}
+use Rattle.isolation.specs.Trace.{Made, inUserMode}
 use Rattle.isolation.specs.Claim.{Held, Alike}
 use Rattle.isolation.proofs.UserStep.{step-held, step-alike, eid-alike}
 
@@ -41,15 +36,11 @@ step-apart : (m : Machine) (lines : ℕ) → Apart (m .memory) → Apart (stepOf
 unfolding stepOf
 step-apart m lines h = done-apart (m .memory) (look m lines) h
 
-pages-bound : (limit n : ℕ) → pagesUpTo limit n ≡ true → n ≤ limit
-unfolding pagesUpTo
-pages-bound limit n e = leb-true n limit (both-true _ _ (both-true (leb 4096 n) _ e .1) .0)
-
 pub accepted-parts : (m : Machine) (wanted : ℕ) → runRefusal m wanted ≡ 0 → Apart (m .memory)
 unfolding runRefusal
 accepted-parts m wanted e =
     let passed = all-pass (runTests m wanted) refl e in
-    accepted-apart (m .memory) (pages-bound 536870912 _ (passed .0)) (pages-bound 268435456 _ (passed .1 .0))
+    accepted-apart (m .memory) (ram-accepted _ .0 (passed .0) .1) (rom-accepted _ .0 (passed .1 .0) .1)
 
 -- ---- what is carried along
 
@@ -58,6 +49,10 @@ pub record Both (start m n : Machine) : Type 0 where
   pub held : Held start m
   pub first : Representable m
   pub second : Representable n
+
+-- after a step of each
+abbrev pub BothAfter : Machine → Made → Made → Type 0
+BothAfter start s t = Both start (s .machine) (t .machine)
 
 module _ (start : Machine) where
   pub mode-same : (m n : Machine) → Both start m n → inUserMode n ≡ inUserMode m

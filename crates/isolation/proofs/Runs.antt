@@ -1,8 +1,8 @@
 -- One run of a list from two machines, refused or made: its trace and its answer.
-use mathlib.Core.Path.{_≡_, refl, ap, sym, subst, _∙_}
+use mathlib.Core.Path.{_≡_, refl, sym, subst, _∙_}
 use mathlib.Core.Bool.{Bool, true, false, cond, true≢false}
 use mathlib.Core.List.{List, [], _∷_, _++_}
-use Prim.Native.Nat.{ℕ, suc}
+use Prim.Native.Nat.{suc}
 use lib.Dec.{eqb}
 use borrow.Author.Tests.{eqb-true}
 use Rattle.words.specs.Logic.{both}
@@ -11,9 +11,9 @@ use Rattle.machine.specs.Machine.{Machine}
 use Rattle.step.specs.Step.{Stepped}
 use Rattle.refusals.specs.Refusal.{runRefusal}
 use Rattle.run_loop.specs.Run.{Request, Outcome, answer, ends, stepsFrom, stepsOf, counted, countedAll, refused, runOf}
-use Rattle.isolation.specs.Trace.{Call, inUserMode, machines, callOutcome, callTrace, upToLeaving, madeInUserMode}
+use Rattle.isolation.specs.Trace.{Call, Made, inUserMode, madeWith, callOutcome, callTrace, upToLeaving, madeInUserMode}
 use Rattle.isolation.proofs.Entries.{outcome-is, trace-is}
-use Rattle.isolation.proofs.Lift.{Both, mode-same, refusal-same, accepted-parts, Agree, steps-agree}
+use Rattle.isolation.proofs.Lift.{Both, BothAfter, mode-same, refusal-same, accepted-parts, Agree, steps-agree}
 
 module _ (start : Machine) where
   -- ---- whether all steps were made in User Mode, and then the machines and the answers
@@ -22,6 +22,9 @@ module _ (start : Machine) where
   Ended t u o p = (u ≡ t) × (t ≡ true → Both start (o .machine) (p .machine) × (o .answer ≡ p .answer))
 
   module _ (q : Request) where
+    abbrev made : List Stepped → List Made
+    made ss = madeWith (q .lines) ss
+
     -- two outcomes with the same answer, one step with the same event further on
     same-counted : (o p : Outcome) (s t : Stepped) → o .answer ≡ p .answer → s .event .eid ≡ t .event .eid
         → counted q o s .answer ≡ counted q p t .answer
@@ -30,7 +33,7 @@ module _ (start : Machine) where
 
     steps-end : (o p : Outcome) (ss ts : List Stepped) → Both start (o .machine) (p .machine) → o .answer ≡ p .answer
         → Agree start (o .machine) (p .machine) ss ts
-        → Ended (madeInUserMode (o .machine) (machines ss)) (madeInUserMode (p .machine) (machines ts)) (countedAll q o ss) (countedAll q p ts)
+        → Ended (madeInUserMode (o .machine) (made ss)) (madeInUserMode (p .machine) (made ts)) (countedAll q o ss) (countedAll q p ts)
     unfolding madeInUserMode countedAll
     steps-end o p [] [] b a agree = (refl, λ _. (b, a))
     steps-end o p [] (t ∷ ts) b a agree = absurd agree
@@ -41,10 +44,10 @@ module _ (start : Machine) where
         steps-end (counted q o s) (counted q p t) ss ts b′ (same-counted o p s t a e) rest))
       where
         A : Bool
-        A = madeInUserMode (s .machine) (machines ss)
+        A = madeInUserMode (s .machine) (made ss)
 
         B : Bool
-        B = madeInUserMode (t .machine) (machines ts)
+        B = madeInUserMode (t .machine) (made ts)
 
         F : Outcome
         F = countedAll q (counted q o s) ss
@@ -58,16 +61,16 @@ module _ (start : Machine) where
 
     -- ---- the trace, and then what comes after it
 
-    abbrev pub Pairs : List Machine → List Machine → Type 0
-    Pairs xs ys = Pairwise (Both start) (upToLeaving xs) (upToLeaving ys)
+    abbrev pub Pairs : List Made → List Made → Type 0
+    Pairs xs ys = Pairwise (BothAfter start) (upToLeaving xs) (upToLeaving ys)
 
     -- how it goes on from the machines at the end of the run
-    abbrev pub Onward : Machine → Machine → List Machine → List Machine → Type 0
+    abbrev pub Onward : Machine → Machine → List Made → List Made → Type 0
     Onward m n xs ys = Both start m n → inUserMode m ≡ true → Pairs xs ys
 
-    steps-pair : (o p : Outcome) (ss ts : List Stepped) (xs ys : List Machine) → Both start (o .machine) (p .machine) → inUserMode (o .machine) ≡ true
+    steps-pair : (o p : Outcome) (ss ts : List Stepped) (xs ys : List Made) → Both start (o .machine) (p .machine) → inUserMode (o .machine) ≡ true
         → Agree start (o .machine) (p .machine) ss ts → Onward (countedAll q o ss .machine) (countedAll q p ts .machine) xs ys
-        → Pairs (machines ss ++ xs) (machines ts ++ ys)
+        → Pairs (made ss ++ xs) (made ts ++ ys)
     unfolding upToLeaving countedAll
     steps-pair o p [] [] xs ys b user agree on = on b user
     steps-pair o p [] (t ∷ ts) xs ys b user agree on = absurd agree
@@ -80,9 +83,9 @@ module _ (start : Machine) where
         )
       where
         Tails : Bool → Bool → Type 0
-        Tails v w = Pairwise (Both start) (cond v (upToLeaving (machines ss ++ xs)) []) (cond w (upToLeaving (machines ts ++ ys)) [])
+        Tails v w = Pairwise (BothAfter start) (cond v (upToLeaving (made ss ++ xs)) []) (cond w (upToLeaving (made ts ++ ys)) [])
 
-        go : (v : Bool) → inUserMode (s .machine) ≡ v → (inUserMode (s .machine) ≡ true → Pairs (machines ss ++ xs) (machines ts ++ ys)) → Tails v v
+        go : (v : Bool) → inUserMode (s .machine) ≡ v → (inUserMode (s .machine) ≡ true → Pairs (made ss ++ xs) (made ts ++ ys)) → Tails v v
         go true stay rest = rest stay
         go false left rest = tt
 
@@ -119,7 +122,7 @@ module _ (start : Machine) where
         rw (trace-is c m (b .first), trace-is c n (b .second), outcome-is c m (b .first), outcome-is c n (b .second))
         (steps-end q before-m before-n (stepsOf q m) (stepsOf q n) b (λ i. answer (sym same i) 0 32) agree)
 
-    pub call-pairs : inUserMode m ≡ true → (xs ys : List Machine) → Onward q (callOutcome c m .machine) (callOutcome c n .machine) xs ys
+    pub call-pairs : inUserMode m ≡ true → (xs ys : List Made) → Onward q (callOutcome c m .machine) (callOutcome c n .machine) xs ys
         → Pairs q (callTrace c m ++ xs) (callTrace c n ++ ys)
     unfolding runOf before-m before-n
     call-pairs user xs ys on =

@@ -2,18 +2,18 @@
 use mathlib.Core.Path.{_≡_, refl, ap, ap₂, sym, subst, _∙_}
 use mathlib.Core.Bool.{Bool, true, false, cond, true≢false}
 use mathlib.Core.List.{List}
-use Prim.Native.Nat.{ℕ, _+_, _<_}
+use Prim.Native.Nat.{ℕ, _<_}
 use lib.Dec.{ltb}
 use lib.ListN.{getD}
-use Rattle.memory.specs.Map.{Memory, byteAt}
+use Rattle.memory.specs.Map.{Memory}
 use Rattle.memory.specs.Access.{memoryAfter}
 use Rattle.memory.proofs.OwnBytes.{Apart}
 use Rattle.memory.proofs.StoreLaws.{store-lengths, store-rom, store-keeps}
-use Rattle.status.specs.Psw.{userMode, pushed}
+use Rattle.status.specs.Psw.{pushed}
 use Rattle.look.specs.Interrupt.{channel}
 use Rattle.tlb.specs.Lookup.{lookup}
 use Rattle.translation.specs.Translation.{valid, writable, frameOf}
-use Rattle.exceptions.specs.Entry.{entryHighAfter, badAddressAfter}
+use Rattle.processor.specs.Entry.{entryHighAfter, badAddressAfter}
 use Rattle.processor.specs.Exception.{entered}
 use Rattle.processor.specs.Register.{written, jumped}
 use Rattle.processor.specs.declared.Processor.{Processor}
@@ -27,10 +27,9 @@ use Rattle.machine.specs.Machine.{Machine}
 use Rattle.look.specs.Look.{operandsOf, decoded, lookFrom}
 use Rattle.actions.specs.Actions.{processorAfter, storeWidth}
 use Rattle.step.specs.Step.{surroundingsOf, look, memoryDone, done, stepOf, eidOf}
-use Rattle.step.proofs.Looks.{step-done}
 use Rattle.isolation.specs.Frames.{frameAt, lowWord, ValidUserPage, Reached, ReachedWritable, SameIn}
 use Rattle.isolation.specs.Trace.{inUserMode}
-use Rattle.isolation.specs.Claim.{Specials, specialsOf, Left, Held, Alike}
+use Rattle.isolation.specs.Claim.{Specials, Left, Held, Alike}
 use Rattle.isolation.proofs.UserActions.{GrantedStore, UserAction, executed-user}
 use Rattle.isolation.proofs.SameLooks.{byte-writable, look-same}
 use Rattle.isolation.proofs.SameStores.{store-same}
@@ -106,9 +105,9 @@ module _ (start m : Machine) (held : Held start m) (user : inUserMode m ≡ true
             ∙ held .frames .bytes j not;
       })
 
-  held-after : (a : Action) → UserAction (surroundingsOf m) a → look m lines ≡ a → Held start (done m a)
-  unfolding written jumped entered enteredSpecials
-  held-after (Write n v next) u e =
+  held-after : (a : Action) → UserAction (surroundingsOf m) a → Held start (done m a)
+  unfolding written jumped entered
+  held-after (Write n v next) u =
       record {
         tlbhigh = held .tlbhigh;
         tlblow = held .tlblow;
@@ -116,9 +115,8 @@ module _ (start m : Machine) (held : Held start m) (user : inUserMode m ≡ true
         rom = held .rom;
         frames = held .frames;
         staying = λ _. held .staying user;
-        leaving = λ no. absurd (true≢false (sym user ∙ no));
       }
-  held-after (Store width physical v) u e =
+  held-after (Store width physical v) u =
       record {
         tlbhigh = held .tlbhigh;
         tlblow = held .tlblow;
@@ -126,10 +124,9 @@ module _ (start m : Machine) (held : Held start m) (user : inUserMode m ≡ true
         rom = store-rom (storeWidth width) (m .memory) physical v ∙ held .rom;
         frames = stored width physical v u;
         staying = λ _. held .staying user;
-        leaving = λ no. absurd (true≢false (sym user ∙ no));
       }
-  held-after (System i) u e = absurd u
-  held-after (Exception eid address) u e =
+  held-after (System i) u = absurd u
+  held-after (Exception eid address) u =
       record {
         tlbhigh = held .tlbhigh;
         tlblow = held .tlblow;
@@ -137,23 +134,35 @@ module _ (start m : Machine) (held : Held start m) (user : inUserMode m ≡ true
         rom = held .rom;
         frames = held .frames;
         staying = λ yes. absurd (true≢false (sym yes ∙ pushed-kernel (m .processor .psw) eid));
-        leaving = λ _. record {
-          before = m;
-          lines = lines;
-          eid = eid;
-          address = address;
-          user = user;
-          kept = held .staying user;
-          named = e;
-          step = sym (step-done m lines (Exception eid address) e);
-          processor = refl;
-          specials = ap (enteredSpecials eid address) (held .staying user);
-        };
       }
 
   pub step-held : Held start (stepOf m lines .machine)
   unfolding stepOf
-  step-held = held-after (look m lines) (look-user m lines user) refl
+  step-held = held-after (look m lines) (look-user m lines user)
+
+  -- only an exception leaves
+  left-after : (a : Action) → UserAction (surroundingsOf m) a → look m lines ≡ a → inUserMode (done m a) ≡ false
+      → Left start m (record { lines = lines; machine = done m a })
+  unfolding written jumped entered enteredSpecials
+  left-after (Write n v next) u e out = absurd (true≢false (sym user ∙ out))
+  left-after (Store width physical v) u e out = absurd (true≢false (sym user ∙ out))
+  left-after (System i) u e out = absurd u
+  left-after (Exception eid address) u e out =
+      record {
+        eid = eid;
+        address = address;
+        user = user;
+        kept = held .staying user;
+        named = e;
+        processor = refl;
+        specials = ap (enteredSpecials eid address) (held .staying user);
+      }
+
+  pub step-left : (n : Machine) → n ≡ stepOf m lines .machine → inUserMode n ≡ false → Left start m (record { lines = lines; machine = n })
+  unfolding stepOf
+  step-left n e out =
+      subst (λ (k : Machine). Left start m (record { lines = lines; machine = k })) (sym e)
+      (left-after (look m lines) (look-user m lines user) refl (subst (λ (k : Machine). inUserMode k ≡ false) e out))
 
 -- ---- confidentiality
 

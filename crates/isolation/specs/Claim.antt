@@ -1,7 +1,7 @@
 -- What isolation says of a list of runs (document 01, "Runs and views", last three paragraphs; demand 3).
 use mathlib.Core.Path.{_≡_}
 use mathlib.Core.Bool.{true, false}
-use mathlib.Core.List.{List}
+use mathlib.Core.List.{List, [], _∷_}
 use Prim.Native.Nat.{ℕ}
 use Rattle.processor.specs.declared.Processor.{Processor}
 use Rattle.processor.specs.Exception.{entered}
@@ -9,8 +9,8 @@ use Rattle.instructions.specs.Action.{Exception}
 use Rattle.machine.specs.Machine.{Machine, Representable}
 use Rattle.step.specs.Step.{look, stepOf}
 use Rattle.isolation.specs.Frames.{Reached, ReachedWritable, SameIn}
-use Rattle.words.specs.Lists.{Every, Pairwise}
-use Rattle.isolation.specs.Trace.{Call, inUserMode, traceOf, upToLeaving, answersOf}
+use Rattle.words.specs.Lists.{Pairwise}
+use Rattle.isolation.specs.Trace.{Call, Made, inUserMode, traceOf, upToLeaving, answersOf}
 
 -- the special registers
 pub record Specials : Type 0 where
@@ -32,20 +32,6 @@ specialsOf p =
 
 -- ---- integrity
 
--- right after the leaving step: it was made from a machine in User Mode with the start's special registers, it named an exception, and they
--- are what entry makes of them
-pub record Left (start m : Machine) : Type 0 where
-  pub before : Machine
-  pub lines : ℕ
-  pub eid : ℕ
-  pub address : ℕ
-  pub user : inUserMode before ≡ true
-  pub kept : specialsOf (before .processor) ≡ specialsOf (start .processor)
-  pub named : look before lines ≡ Exception eid address
-  pub step : m ≡ stepOf before lines .machine
-  pub processor : m .processor ≡ entered (before .processor) eid address
-  pub specials : specialsOf (m .processor) ≡ specialsOf (entered (start .processor) eid address)
-
 -- a machine of the trace against the start
 pub record Held (start m : Machine) : Type 0 where
   pub tlbhigh : m .processor .tlbhigh ≡ start .processor .tlbhigh
@@ -54,10 +40,31 @@ pub record Held (start m : Machine) : Type 0 where
   pub rom : m .memory .rom ≡ start .memory .rom
   pub frames : SameIn (λ frame. ReachedWritable (start .processor) frame → ⊥) (m .memory) (start .memory)
   pub staying : inUserMode m ≡ true → specialsOf (m .processor) ≡ specialsOf (start .processor)
-  pub leaving : inUserMode m ≡ false → Left start m
+
+-- the leaving step: the machine before it was in User Mode with the start's special registers, it named an exception, and they are what entry
+-- makes of them
+pub record Left (start before : Machine) (s : Made) : Type 0 where
+  pub eid : ℕ
+  pub address : ℕ
+  pub user : inUserMode before ≡ true
+  pub kept : specialsOf (before .processor) ≡ specialsOf (start .processor)
+  pub named : look before (s .lines) ≡ Exception eid address
+  pub processor : s .machine .processor ≡ entered (before .processor) eid address
+  pub specials : specialsOf (s .machine .processor) ≡ specialsOf (entered (start .processor) eid address)
+
+-- a step of the trace, from the machine before it
+pub record HeldStep (start before : Machine) (s : Made) : Type 0 where
+  pub step : s .machine ≡ stepOf before (s .lines) .machine
+  pub held : Held start (s .machine)
+  pub leaving : inUserMode (s .machine) ≡ false → Left start before s
+
+-- of each step of a trace, with the machine before it: m before the first, and then the one that the step before it made
+abbrev pub Consecutive : (Machine → Made → Type 0) → Machine → List Made → Type 0
+Consecutive P m [] = Unit {0}
+Consecutive P m (s ∷ ss) = P m s × Consecutive P (s .machine) ss
 
 abbrev pub Integrity : List Call → Machine → Type 0
-Integrity calls start = Every (Held start) (upToLeaving (traceOf calls start))
+Integrity calls start = Consecutive (HeldStep start) start (upToLeaving (traceOf calls start))
 
 -- ---- confidentiality
 
@@ -66,9 +73,13 @@ pub record Alike (p : Processor) (m n : Machine) : Type 0 where
   pub processor : m .processor ≡ n .processor
   pub frames : SameIn (Reached p) (m .memory) (n .memory)
 
+-- after a step of each
+abbrev pub AlikeAfter : Processor → Made → Made → Type 0
+AlikeAfter p s t = Alike p (s .machine) (t .machine)
+
 -- after each step up to the leaving one the two are alike, and the runs that end by then give equal answers
 pub record Confidential (calls : List Call) (start twin : Machine) : Type 0 where
-  pub steps : Pairwise (Alike (start .processor)) (upToLeaving (traceOf calls start)) (upToLeaving (traceOf calls twin))
+  pub steps : Pairwise (AlikeAfter (start .processor)) (upToLeaving (traceOf calls start)) (upToLeaving (traceOf calls twin))
   pub answers : answersOf calls start ≡ answersOf calls twin
 
 -- ---- both, of one list

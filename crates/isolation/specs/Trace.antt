@@ -1,6 +1,7 @@
--- A list of runs, the machine after every step of it, and the answers that are compared (document 01, "Runs and views").
+-- A list of runs, every step of it, and the answers that are compared (document 01, "Runs and views").
 use mathlib.Core.Bool.{Bool, true, cond}
 use mathlib.Core.List.{List, [], _∷_, _++_}
+use Prim.Native.Nat.{ℕ}
 use Rattle.words.specs.Logic.{both}
 use Rattle.status.specs.Psw.{userMode}
 use Rattle.machine.specs.Machine.{Machine}
@@ -41,29 +42,33 @@ stepsBy Exported q m = callSteps q (recordOf (m .processor)) (m .memory)
 unfoldable pub callOutcome : Call → Machine → Outcome
 callOutcome c m = outcomeBy (c .entry) (c .request) m
 
--- the machine after every step
-abbrev pub machines : List Stepped → List Machine
-machines [] = []
-machines (s ∷ ss) = s .machine ∷ machines ss
+-- a step of a list: the lines of its run, and the machine after it
+pub record Made : Type 0 where
+  pub lines : ℕ
+  pub machine : Machine
 
-unfoldable pub callTrace : Call → Machine → List Machine
-callTrace c m = machines (stepsBy (c .entry) (c .request) m)
+abbrev pub madeWith : ℕ → List Stepped → List Made
+madeWith lines [] = []
+madeWith lines (s ∷ ss) = record { lines = lines; machine = s .machine } ∷ madeWith lines ss
+
+unfoldable pub callTrace : Call → Machine → List Made
+callTrace c m = madeWith (c .request .lines) (stepsBy (c .entry) (c .request) m)
 
 -- ---- the list: each run takes the machine that the one before it returned and the bytes that it left
 
-unfoldable pub traceOf : List Call → Machine → List Machine
+unfoldable pub traceOf : List Call → Machine → List Made
 traceOf [] m = []
 traceOf (c ∷ cs) m = callTrace c m ++ traceOf cs (callOutcome c m .machine)
 
--- up to and including the first machine that is not in User Mode
-unfoldable pub upToLeaving : List Machine → List Machine
+-- up to and including the first step after which the machine is not in User Mode
+unfoldable pub upToLeaving : List Made → List Made
 upToLeaving [] = []
-upToLeaving (m ∷ ms) = m ∷ cond (inUserMode m) (upToLeaving ms) []
+upToLeaving (s ∷ ss) = s ∷ cond (inUserMode (s .machine)) (upToLeaving ss) []
 
 -- every step of a trace from m on is made in User Mode: none comes after the leaving one
-unfoldable pub madeInUserMode : Machine → List Machine → Bool
+unfoldable pub madeInUserMode : Machine → List Made → Bool
 madeInUserMode m [] = true
-madeInUserMode m (n ∷ ns) = both (inUserMode m) (madeInUserMode n ns)
+madeInUserMode m (s ∷ ss) = both (inUserMode m) (madeInUserMode (s .machine) ss)
 
 -- the answers of the runs that end before any step after the leaving one is made
 unfoldable pub answersOf : List Call → Machine → List Answer

@@ -3,11 +3,12 @@ use mathlib.Core.Bool.{cond}
 use Prim.Native.Nat.{ℕ, zero, suc, _/_, _%_}
 use lib.Bits.{bitAnd}
 use lib.Dec.{eqb}
+use Rattle.words.specs.Identifiers.{noException}
 use Rattle.status.specs.Psw.{interruptCurrent, enabled}
 
 -- an interrupt channel is below 16; this stands for none
 abbrev pub noChannel : ℕ
-noChannel = 32
+noChannel = noException
 
 -- the lowest of the n channels from i on whose bit is set, or `noChannel`; bit j of ready is channel i + j
 unfoldable pub lowest : ℕ → ℕ → ℕ → ℕ

@@ -57,7 +57,7 @@ pub fn look_at<'a>(
     ensures { λ r. ⌜ actionOf r ≡ lookFrom (around psw highs lows ram rom belt) (now (registers .entry)) pc lines ⌝ }
 {
     let channel = accepted(psw, lines);
-    if channel < 32 {
+    if channel < Processor::NO_EXCEPTION {
         return Coded::Exception(channel, 0, 0);
     }
     let fetched = access::fetch(psw, highs, lows, i, ram, rom, belt, pc);

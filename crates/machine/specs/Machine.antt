@@ -23,12 +23,16 @@ after p ram rom belt = record { processor = p; memory = left ram rom belt }
 
 -- ---- what the code's types say of a machine
 
+-- every element is below a number
+abbrev pub Bounded : ℕ → List ℕ → Type 0
+Bounded n l = (i : ℕ) → i < length l → getD l i 0 < n
+
 -- 32 words
 abbrev pub Words32 : List ℕ → Type 0
 Words32 l = (length l ≡ 32) × ((i : ℕ) → i < 32 → getD l i 0 < 2 ^ 32)
 
 abbrev pub Bytes : List ℕ → Type 0
-Bytes l = (i : ℕ) → i < length l → getD l i 0 < 256
+Bytes l = Bounded 256 l
 
 -- every processor of the code is one of these, and all memory that a host lends
 pub record Representable (m : Machine) : Type 0 where

@@ -1,5 +1,4 @@
 -- Loads and stores of w bytes at a physical address (document 01, "One step" and "Closed by us"; manual, 3.5).
-use mathlib.Core.List.{List}
 use Prim.Native.Nat.{ℕ}
 use Rattle.words.specs.Identifiers.{busTimeout, noException}
 use Rattle.endian.specs.BigEndian.{readAt, writeAt}

@@ -18,7 +18,8 @@ use Rattle.refusals.specs.Refusal.{ramAccepted, pagesUpTo}
 use Rattle.refusals.proofs.FirstFailed.{all-pass}
 use Rattle.words.specs.Lists.{Every}
 use Rattle.words.proofs.Conjunction.{both-true}
-use Rattle.page_view.specs.View.{lookedUp, inRam, offsetOf, hasFrame, viewTests, viewRefusal, viewed, viewOf}
+use Rattle.translation.specs.Translation.{physicalOf}
+use Rattle.page_view.specs.View.{lookedUp, inRam, hasFrame, viewTests, viewRefusal, viewed, viewOf}
 use Rattle.page_view.specs.Part.{viewPart, partPtr}
 use Rattle.page_view.proofs.Answers.{the-refusal, the-offset, the-size}
 use Rattle.page_view.proofs.Lookup.{frame-start}
@@ -31,10 +32,10 @@ multiple n e =
     let rest = both-true (leb 4096 n) (both (leb n 536870912) (eqb (n % 4096) 0)) e .1 in
     eqb-true (n % 4096) 0 (both-true (leb n 536870912) (eqb (n % 4096) 0) rest .1)
 
-found : (n : ℕ) (t : Translation) → inRam n t ≡ true → (t ≡ Physical (offsetOf t)) × (offsetOf t < n)
+found : (n : ℕ) (t : Translation) → inRam n t ≡ true → (t ≡ Physical (physicalOf t)) × (physicalOf t < n)
 found n t e =
-    walk (λ a. ltb a n) (λ eid. false) (λ (b : Bool). b ≡ true → (t ≡ Physical (offsetOf t)) × (offsetOf t < n)) t
-    (λ a p h. (p ∙ ap Physical (sym (ap offsetOf p)), subst (λ (k : ℕ). k < n) (sym (ap offsetOf p)) (ltb-true a n h)))
+    walk (λ a. ltb a n) (λ eid. false) (λ (b : Bool). b ≡ true → (t ≡ Physical (physicalOf t)) × (physicalOf t < n)) t
+    (λ a p h. (p ∙ ap Physical (sym (ap physicalOf p)), subst (λ (k : ℕ). k < n) (sym (ap physicalOf p)) (ltb-true a n h)))
     (λ eid low high h. absurd (true≢false (sym h))) e
 
 module _ (ram : List ℕ) (p : Processor) (page : ℕ) where
@@ -51,11 +52,11 @@ module _ (ram : List ℕ) (p : Processor) (page : ℕ) where
     pub frame-behind : hasFrame (length ram) p page ≡ true
     frame-behind = passed .1 .1 .0
 
-    offset-is : viewOf ram p page .offset ≡ offsetOf (lookedUp p page)
+    offset-is : viewOf ram p page .offset ≡ physicalOf (lookedUp p page)
     unfolding viewOf
     offset-is = simp (eq-eqb _ 0 ok)
 
-    in-ram : (lookedUp p page ≡ Physical (offsetOf (lookedUp p page))) × (offsetOf (lookedUp p page) < length ram)
+    in-ram : (lookedUp p page ≡ Physical (physicalOf (lookedUp p page))) × (physicalOf (lookedUp p page) < length ram)
     unfolding hasFrame
     in-ram = found (length ram) (lookedUp p page) (both-true (leb page 0xFFFFF) _ frame-behind .1)
 

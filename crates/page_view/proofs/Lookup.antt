@@ -11,11 +11,11 @@ use borrow.Author.Tests.{eq-eqb, leb-true}
 use Rattle.words.proofs.Cases.{same-leb}
 use Rattle.status.specs.Psw.{userMode, userCurrent}
 use Rattle.tlb.specs.Lookup.{lookup}
-use Rattle.translation.specs.Translation.{frameOf, valid, through, mapped, forbidden, translated}
+use Rattle.translation.specs.Translation.{frameOf, valid, through, mapped, forbidden, translated, physicalOf}
 use Rattle.processor.specs.declared.Processor.{Processor}
 use Rattle.translation.specs.declared.Translation.{Translation}
 use Rattle.translation.specs.declared.Translation.the-variants.{Physical, TlbMiss, TlbInvalid}
-use Rattle.page_view.specs.View.{kernelMode, lookedUp, offsetOf}
+use Rattle.page_view.specs.View.{kernelMode, lookedUp}
 use Rattle.words.proofs.Conjunction.{second-false}
 
 -- the answer by three tests: a direct page of frame f, an entry of frame g, its valid bit clear; i is the offset in the page
@@ -29,9 +29,9 @@ direct-place false x y z h = refl
 
 -- where the first byte is found, its address is a multiple of 4,096, and byte i is i further
 picked-frame : (t u v : Bool) (f g i a : ℕ) → picked t u v f g 0 ≡ Physical a → (a % 4096 ≡ 0) × (picked t u v f g i ≡ Physical (a + i))
-picked-frame true u v f g i a e = let h : f * 4096 + 0 ≡ a = ap offsetOf e in (omega arith, ap Physical (omega arith))
+picked-frame true u v f g i a e = let h : f * 4096 + 0 ≡ a = ap physicalOf e in (omega arith, ap Physical (omega arith))
 picked-frame false true true f g i a e = absurd (let z : _≡_ {A = ℕ} 0 1 = cc in omega arith)
-picked-frame false true false f g i a e = let h : g * 4096 + 0 ≡ a = ap offsetOf e in (omega arith, ap Physical (omega arith))
+picked-frame false true false f g i a e = let h : g * 4096 + 0 ≡ a = ap physicalOf e in (omega arith, ap Physical (omega arith))
 picked-frame false false v f g i a e = absurd (let z : _≡_ {A = ℕ} 0 1 = cc in omega arith)
 
 module _ (highs lows : List ℕ) where

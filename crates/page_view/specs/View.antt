@@ -5,7 +5,7 @@ use Prim.Native.Nat.{ℕ, _*_}
 use lib.Dec.{leb, ltb, eqb}
 use lib.ListN.{length}
 use Rattle.words.specs.Logic.{both}
-use Rattle.translation.specs.Translation.{translated, resolved}
+use Rattle.translation.specs.Translation.{translated, resolved, physicalOf}
 use Rattle.processor.specs.declared.Processor.{Processor}
 use Rattle.translation.specs.declared.Translation.{Translation}
 use Rattle.refusals.specs.Refusal.{Test, firstFailed, ramTest, fitTest, frameTest}
@@ -23,10 +23,6 @@ lookedUp p page = translated kernelMode (p .tlbhigh) (p .tlblow) 1 false (page *
 -- the address lies in RAM, n bytes from 0. So it does not where nothing answers, the bus timeout (16)
 abbrev pub inRam : ℕ → Translation → Bool
 inRam n t = resolved (λ address. ltb address n) (λ eid. false) t
-
--- the offset in RAM, which begins at 0; of a fault none is used
-abbrev pub offsetOf : Translation → ℕ
-offsetOf t = resolved (λ address. address) (λ eid. 0) t
 
 -- a RAM frame is behind the page: cause 8 is that the number exceeds FFFFF, or the load would fault, or its address is not RAM
 unfoldable pub hasFrame : ℕ → Processor → ℕ → Bool
@@ -49,9 +45,9 @@ pub record Viewed : Type 0 where
 abbrev pub viewed : ℕ → ℕ → ℕ → Viewed
 viewed refusal offset size = record { refusal = refusal; offset = offset; size = size }
 
--- the answer for a frame; where refused, offset and length are 0
+-- the answer for a frame: RAM begins at 0, so the physical address is the offset; where refused, offset and length are 0
 abbrev pub viewedAt : ℕ → Translation → Viewed
-viewedAt refusal t = viewed refusal (cond (eqb refusal 0) (offsetOf t) 0) (cond (eqb refusal 0) 4096 0)
+viewedAt refusal t = viewed refusal (cond (eqb refusal 0) (physicalOf t) 0) (cond (eqb refusal 0) 4096 0)
 
 unfoldable pub viewOf : List ℕ → Processor → ℕ → Viewed
 viewOf ram p page = viewedAt (viewRefusal ram p page) (lookedUp p page)

@@ -2,7 +2,7 @@
 use Prim.Native.Nat.{ℕ}
 use lib.ListN.{getD, set}
 use Rattle.status.specs.Psw.{pushed, popped}
-use Rattle.exceptions.specs.Entry.{serviceAddress, badAddressAfter, entryHighAfter}
+use Rattle.processor.specs.Entry.{serviceAddress, badAddressAfter, entryHighAfter}
 use Rattle.processor.specs.State.{withRegisters, withPc, withSpecials}
 use Rattle.processor.specs.declared.Processor.{Processor}
 

@@ -7,12 +7,13 @@ use lib.ListN.{getD, replicate}
 use Rattle.words.specs.Logic.{both}
 use Rattle.kept_bits.specs.Kept.{keptPsw, keptIndex, keptHigh, keptLow, only, onlyFrom}
 use Rattle.processor.specs.declared.Processor.{Processor}
+use Rattle.processor.specs.Entry.{romService}
 
 unfoldable pub atReset : Processor
 atReset =
     record {
       registers = replicate 32 0;
-      pc = 0xE0000000;
+      pc = romService;
       psw = 0;
       index = 0;
       entryhigh = 0;

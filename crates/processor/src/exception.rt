@@ -1,5 +1,6 @@
 // Exception entry and return (manual, 2.8).
 use crate::Processor;
+use crate::entry;
 ghost use mathlib.Core.Path.{_≡_};
 ghost use Rattle.processor.specs.Exception.{entered, returned};
 
@@ -14,12 +15,12 @@ impl Processor {
         let tlblow = self.tlblow;
         Self {
             registers: registers,
-            pc: exceptions::service_address(self.psw, eid, address),
+            pc: entry::service_address(self.psw, eid, address),
             psw: status::push(self.psw, eid),
             index: self.index,
-            entryhigh: exceptions::entry_high(eid, address, self.entryhigh),
+            entryhigh: entry::entry_high(eid, address, self.entryhigh),
             entrylow: self.entrylow,
-            badaddress: exceptions::bad_address(eid, address, self.badaddress),
+            badaddress: entry::bad_address(eid, address, self.badaddress),
             tlbhigh: tlbhigh,
             tlblow: tlblow,
             replacement: self.replacement,

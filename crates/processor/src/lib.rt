@@ -3,6 +3,7 @@
 ghost use mathlib.Core.Path.{_≡_};
 ghost use Rattle.processor.specs.State.{atReset};
 
+mod entry;
 mod exception;
 mod register;
 mod tlb_write;
@@ -26,36 +27,36 @@ pub struct Processor {
 
 impl Processor {
     // Exception identifiers (manual, 2.7.4). 0 to 15 are the interrupt channels.
-    pub const BUS_TIMEOUT: u32 = exceptions::BUS_TIMEOUT;
+    pub const BUS_TIMEOUT: u32 = 16;
 
-    pub const ILLEGAL_INSTRUCTION: u32 = exceptions::ILLEGAL_INSTRUCTION;
+    pub const ILLEGAL_INSTRUCTION: u32 = 17;
 
-    pub const PRIVILEGED_INSTRUCTION: u32 = exceptions::PRIVILEGED_INSTRUCTION;
+    pub const PRIVILEGED_INSTRUCTION: u32 = 18;
 
-    pub const DIVISION_BY_ZERO: u32 = exceptions::DIVISION_BY_ZERO;
+    pub const DIVISION_BY_ZERO: u32 = 19;
 
-    pub const TRAP: u32 = exceptions::TRAP;
+    pub const TRAP: u32 = 20;
 
-    pub const TLB_MISS: u32 = exceptions::TLB_MISS;
+    pub const TLB_MISS: u32 = 21;
 
-    pub const TLB_WRITE: u32 = exceptions::TLB_WRITE;
+    pub const TLB_WRITE: u32 = 22;
 
-    pub const TLB_INVALID: u32 = exceptions::TLB_INVALID;
+    pub const TLB_INVALID: u32 = 23;
 
-    pub const ILLEGAL_ADDRESS: u32 = exceptions::ILLEGAL_ADDRESS;
+    pub const ILLEGAL_ADDRESS: u32 = 24;
 
-    pub const PRIVILEGED_ADDRESS: u32 = exceptions::PRIVILEGED_ADDRESS;
+    pub const PRIVILEGED_ADDRESS: u32 = 25;
 
-    pub const NO_EXCEPTION: u32 = exceptions::NO_EXCEPTION;
+    pub const NO_EXCEPTION: u32 = 32;
 
     // Service addresses (manual, 2.8.2): the base by V, and the offsets from it.
-    pub const ROM_SERVICE: u32 = exceptions::ROM_SERVICE;
+    pub const ROM_SERVICE: u32 = 0xE000_0000;
 
-    pub const RAM_SERVICE: u32 = exceptions::RAM_SERVICE;
+    pub const RAM_SERVICE: u32 = 0xC000_0000;
 
-    pub const GENERAL_SERVICE: u32 = exceptions::GENERAL_SERVICE;
+    pub const GENERAL_SERVICE: u32 = 4;
 
-    pub const USER_MISS_SERVICE: u32 = exceptions::USER_MISS_SERVICE;
+    pub const USER_MISS_SERVICE: u32 = 8;
 
     pub fn reset() -> Self
         ensures { λ r. ⌜ r ≡ atReset ⌝ }

@@ -2,3 +2,4 @@
 pub mod Answers
 pub mod WrittenRead
 pub mod ReadWritten
+pub mod Held

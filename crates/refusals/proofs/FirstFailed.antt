@@ -2,27 +2,15 @@
 use mathlib.Core.Path.{_≡_, refl, sym, _∙_}
 use mathlib.Core.Bool.{Bool, true, false, cond}
 use mathlib.Core.List.{List, [], _∷_, _++_}
-use mathlib.Core.Logic.{_⊎_, inl, inr}
 use Prim.Native.Nat.{ℕ, _≤_}
 use native.Mathlib.Omega.{arith}
 use lib.Dec.{leb, eqb}
 use borrow.Author.Tests.{leb-true, eq-eqb, ne-eqb}
 use Rattle.words.specs.Logic.{both}
-use Rattle.words.specs.Lists.{Every}
-use Rattle.words.proofs.Cases.{case, by-test}
+use Rattle.words.proofs.Cases.{by-test}
 use Rattle.words.proofs.Conjunction.{both-true}
 use Rattle.refusals.specs.Refusal.{Test, firstFailed}
-
--- ---- a refusal comes only for its cause
-
--- the number is that of a test that fails, and all before it pass; or it is 0, and all pass
-abbrev pub Cause : List Test → ℕ → Type 0
-Cause [] r = r ≡ 0
-Cause (t ∷ ts) r = ((t .passes ≡ false) × (r ≡ t .number)) ⊎ ((t .passes ≡ true) × Cause ts r)
-
-pub cause : (ts : List Test) → Cause ts (firstFailed ts)
-cause [] = refl
-cause (t ∷ ts) = case (Cause (t ∷ ts)) (t .passes) (λ e. inr (e, cause ts)) (λ e. inl (e, refl))
+use Rattle.refusals.specs.Cause.{AllPass}
 
 -- ---- lists whose tests have numbers from 1 up
 
@@ -34,7 +22,7 @@ own-number : (t : Test) (ts : List Test) → numbered (t ∷ ts) ≡ true → (1
 own-number t ts n = let own = both-true (leb 1 (t .number)) (numbered ts) n in (leb-true 1 (t .number) (own .0), own .1)
 
 -- an accepted call passes every test
-pub all-pass : (ts : List Test) → numbered ts ≡ true → firstFailed ts ≡ 0 → Every (λ t. t .passes ≡ true) ts
+pub all-pass : (ts : List Test) → numbered ts ≡ true → firstFailed ts ≡ 0 → AllPass ts
 all-pass [] n e = tt
 all-pass (t ∷ ts) n e =
     let own = own-number t ts n in

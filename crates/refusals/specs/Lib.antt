@@ -1,2 +1,3 @@
--- The definitions of `refusals`.
+-- The definitions of `refusals`, in the order to read them.
 pub mod Refusal
+pub mod Cause

@@ -1,6 +1,7 @@
 // A run of either kind, with the machine as its record.
 use processor::Processor;
 ghost use mathlib.Core.Path.{_≡_};
+ghost use Rattle.words.specs.Identifiers.{noException};
 ghost use Rattle.memory.specs.Lent.{lent, left};
 ghost use Rattle.run_calls.specs.Runs.{called, callOf};
 ghost use Rattle.run_calls.specs.Code.{firstOf};
@@ -15,7 +16,7 @@ pub struct Answer {
 }
 
 fn refused(number: u32) -> Answer
-    ensures { λ r. ⌜ (r .refusal ≡ number) × (r .steps ≡ 0) × (r .eid ≡ 32) ⌝ }
+    ensures { λ r. ⌜ (r .refusal ≡ number) × (r .steps ≡ 0) × (r .eid ≡ noException) ⌝ }
 {
     Answer {
         refusal: number,

@@ -1,5 +1,4 @@
 -- What every step keeps, every run keeps.
-use mathlib.Core.Bool.{Bool}
 use Prim.Native.Nat.{ℕ, zero, suc}
 use lib.Dec.{eqb}
 use Rattle.words.proofs.Cases.{chosen}
@@ -16,7 +15,7 @@ module _ (P : Machine → Type 0) (step : (m : Machine) (lines : ℕ) → P m �
   abbrev Ends : Outcome → Type 0
   Ends o = P (o .machine)
 
-  from-keeps : (n made : ℕ) (m : Machine) → P m → Ends (runFrom q n made m)
+  pub from-keeps : (n made : ℕ) (m : Machine) → P m → Ends (runFrom q n made m)
   unfolding runFrom stepsFrom countedAll
   from-keeps zero made m h = h
   from-keeps (suc n) made m h =
@@ -24,7 +23,7 @@ module _ (P : Machine → Type 0) (step : (m : Machine) (lines : ℕ) → P m �
       (chosen Ends (ends (q .kind) (stepOf m (q .lines) .event .eid)) (step m (q .lines) h)
       (from-keeps n (suc made) (stepOf m (q .lines) .machine) (step m (q .lines) h)))
 
-  run-keeps : (m : Machine) → P m → Ends (runOf q m)
+  pub run-keeps : (m : Machine) → P m → Ends (runOf q m)
   run-keeps m h = rw (run-is q m) (chosen Ends (eqb (runRefusal m (q .wanted)) 0) (from-keeps (q .wanted) 0 m h) h)
 
 -- a fit processor stays fit

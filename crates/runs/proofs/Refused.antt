@@ -1,4 +1,4 @@
--- A run by its refusal number; a refusal comes only for its cause.
+-- A run by its refusal number.
 use mathlib.Core.Path.{_≡_, refl, sym, _∙_}
 use mathlib.Core.Bool.{cond}
 use Prim.Native.Nat.{ℕ, _≤_}
@@ -6,14 +6,9 @@ use lib.Dec.{eqb}
 use borrow.Author.Tests.{leb-true, eq-eqb, ne-eqb}
 use Rattle.machine.specs.Machine.{Machine}
 use Rattle.refusals.specs.Refusal.{firstFailed, runTests, runRefusal}
-use Rattle.refusals.proofs.FirstFailed.{Cause, cause, all-pass}
+use Rattle.refusals.proofs.FirstFailed.{all-pass}
 use Rattle.run_loop.specs.Run.{Request, outcome, runFrom, runOf, refused}
 use Rattle.run_loop.proofs.Loop.{run-is}
-
--- the number is that of a test that fails, and all before it pass; or it is 0, and all pass
-pub refusal-cause : (m : Machine) (wanted : ℕ) → Cause (runTests m wanted) (runRefusal m wanted)
-unfolding runRefusal
-refusal-cause m wanted = cause (runTests m wanted)
 
 module _ (q : Request) (m : Machine) {r : ℕ} (e : r ≡ firstFailed (runTests m (q .wanted))) where
   by-number : runOf q m ≡ cond (eqb r 0) (runFrom q (q .wanted) 0 m) (refused m r)

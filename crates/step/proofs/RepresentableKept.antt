@@ -18,7 +18,7 @@ use Rattle.tlb.specs.Lookup.{pageOf, lookup, nextReplacement}
 use Rattle.processor.specs.Tlb.{entryWritten, indexedWritten, randomWritten, entryRead, searched}
 use Rattle.status.proofs.PswLaws.{pushed-lt, popped-lt}
 use Rattle.kept_bits.proofs.KeptLaws.{kept-psw-lt, kept-index-lt, kept-high-lt, kept-low-lt}
-use Rattle.exceptions.proofs.EntryLaws.{service-lt}
+use Rattle.processor.proofs.EntryLaws.{service-lt}
 use Rattle.tlb.proofs.Sizes.{replacement-lt, found-lt}
 use Rattle.words.proofs.Every.{_&_, every-at}
 use Rattle.memory.specs.Map.{Memory}

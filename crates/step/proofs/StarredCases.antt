@@ -1,27 +1,25 @@
 -- Document 01's starred cases, as one table over the definitions, each by computation.
 use mathlib.Core.Path.{_≡_, refl}
-use mathlib.Core.Bool.{Bool, true, false}
 use mathlib.Core.List.{List, [], _∷_, _++_}
 use Prim.Native.Nat.{ℕ, _+_, _/_, _%_}
 use lib.ListN.{replicate, getD, set}
 use Rattle.words.specs.Numbers.{bit, truncate, signExtend, zeroExtend, signed, wordOf}
-use Rattle.sums.specs.Sums.{sum, difference}
+use Rattle.sums.specs.Sums.{sum}
 use Rattle.quotients.specs.Quotients.{signedQuotient}
 use Rattle.shifts.specs.Shifts.{shiftArithmetic}
 use Rattle.comparison.specs.Comparison.{signedHolds, unsignedHolds}
 use Rattle.endian.specs.BigEndian.{readAt, writeAt}
-use Rattle.memory.specs.Map.{memory, within, locate, placeOf}
+use Rattle.memory.specs.Map.{within, locate, placeOf}
 use Rattle.memory.specs.Access.{loadOf, storeAnswer, memoryAfter}
 use Rattle.processor.specs.declared.Processor.{Processor}
-use Rattle.kept_bits.specs.Kept.{keptPsw, keptHigh, keptLow}
+use Rattle.kept_bits.specs.Kept.{keptPsw, keptHigh}
 use Rattle.processor.specs.State.{atReset, withPc, withSpecials, withTlb}
 use Rattle.status.specs.Psw.{vector, userCurrent, userPrevious, userOld, interruptCurrent, interruptPrevious}
 use Rattle.status.specs.Psw.{interruptOld, identifier, enabled, pswOf, pushed, popped, userMode}
-use Rattle.exceptions.specs.Entry.{serviceBase, userMiss, serviceAddress}
+use Rattle.processor.specs.Entry.{serviceBase, userMiss, serviceAddress}
 use Rattle.processor.specs.Exception.{entered, returned}
 use Rattle.processor.specs.Register.{put, written, jumped, special, specialWritten}
 use Rattle.tlb.specs.Lookup.{findFrom, lookup}
-use Rattle.processor.specs.Tlb.{entryWritten, indexedWritten}
 use Rattle.translation.specs.Translation.{valid, writable, through, mapped, forbidden, translated}
 use Rattle.look.specs.Interrupt.{lowest, channel}
 use Rattle.compute.specs.Compute.{unlessZero, computations}
@@ -35,7 +33,7 @@ use Rattle.decode.specs.Table.{meanings, executed}
 use Rattle.machine.specs.Machine.{Machine, machine}
 use Rattle.look.specs.Look.{lookFrom}
 use Rattle.actions.specs.Actions.{systemDone, storeWidth}
-use Rattle.step.specs.Step.{look, stepOf}
+use Rattle.step.specs.Step.{Stepped, look, stepOf}
 
 -- ---- the machines of the cases
 
@@ -67,15 +65,23 @@ register i p = getD (p .registers) i 0
 abbrev withEntry : ℕ → ℕ → ℕ → Processor
 withEntry address high low = withTlb (withTwo 0 0 1 address) (set (atReset .tlbhigh) 7 high) (set (atReset .tlblow) 7 low) 4
 
--- the exception of a step of a word in RAM, in User Mode, through TLB entry 7: page 00000 to frame 00000, valid
+-- a step of a word in RAM with a PSW of User Mode, through TLB entry 7: page 00000 to frame 00000, valid
+abbrev userStep : ℕ → ℕ → ℕ → Stepped
+userStep psw word address =
+    stepOf (machine (withSpecials (withPc (withEntry address 0 1) 0) psw 0 0 0 0)
+    (bytes word ++ replicate 4092 0) (replicate 4096 0) (replicate 1024 0)) 0
+
+-- its exception, where V is 0
 abbrev userEid : ℕ → ℕ → ℕ
-userEid word address =
-    stepOf (machine (withSpecials (withPc (withEntry address 0 1) 0) 0x04000000 0 0 0 0)
-    (bytes word ++ replicate 4092 0) (replicate 4096 0) (replicate 1024 0)) 0 .event .eid
+userEid word address = userStep 0x04000000 word address .event .eid
 
 -- the processor after a step of a word in ROM, in Kernel Mode, with TLB entry 7 for page 00003 and its low word given
 abbrev kernelAfter : ℕ → ℕ → ℕ → Processor
 kernelAfter word address low = next word (withEntry address 0x00003000 low)
+
+-- and with V = 1
+abbrev vectorAfter : ℕ → ℕ → Processor
+vectorAfter word address = next word (withSpecials (withEntry address 0x00003000 0) 0x08000000 0 0 0 0)
 
 -- ---- the table
 
@@ -112,6 +118,13 @@ pub record Starred : Type 0 where
   pub miss-below-named : identifier (kernelAfter 0xC0220000 0x00001000 0 .psw) ≡ 21
   pub miss-above : kernelAfter 0xC0220000 0x80000000 0 .pc ≡ 0xE0000004
   pub miss-above-named : identifier (kernelAfter 0xC0220000 0x80000000 0 .psw) ≡ 21
+  -- the mode does not move it, and V = 1 moves the base
+  pub miss-below-from-user : userStep 0x04000000 0xC0220000 0x00001000 .machine .processor .pc ≡ 0xE0000008
+  pub miss-below-from-user-named : userEid 0xC0220000 0x00001000 ≡ 21
+  pub miss-below-with-vector : vectorAfter 0xC0220000 0x00001000 .pc ≡ 0xC0000008
+  pub miss-above-with-vector : vectorAfter 0xC0220000 0x80000000 .pc ≡ 0xC0000004
+  pub miss-below-from-user-with-vector : userStep 0x0C000000 0xC0220000 0x00001000 .machine .processor .pc ≡ 0xC0000008
+  pub miss-below-from-user-with-vector-named : userStep 0x0C000000 0xC0220000 0x00001000 .event .eid ≡ 21
   -- a store through an entry with bits 0 and 1 clear: 23; with only bit 0 set: 22
   pub store-invalid : identifier (kernelAfter 0xD4220000 0x00003000 0x00000000 .psw) ≡ 23
   pub store-read-only : identifier (kernelAfter 0xD4220000 0x00003000 0x00000001 .psw) ≡ 22
@@ -150,6 +163,12 @@ starred =
       miss-below-named = refl;
       miss-above = refl;
       miss-above-named = refl;
+      miss-below-from-user = refl;
+      miss-below-from-user-named = refl;
+      miss-below-with-vector = refl;
+      miss-above-with-vector = refl;
+      miss-below-from-user-with-vector = refl;
+      miss-below-from-user-with-vector-named = refl;
       store-invalid = refl;
       store-read-only = refl;
       store-granted = refl;

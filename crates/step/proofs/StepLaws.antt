@@ -1,14 +1,17 @@
 -- An interrupt comes before any fetch, nothing is named before the fetch otherwise, and a fault leaves only entry.
-use mathlib.Core.Path.{_≡_}
+use mathlib.Core.Path.{_≡_, refl, _∙_}
 use Prim.Native.Nat.{ℕ, _≤_, _<_}
+use native.Mathlib.Omega.{arith}
 use borrow.Author.Tests.{lt-ltb, le-ltb}
 use Rattle.processor.specs.Exception.{entered}
 use Rattle.look.specs.Interrupt.{channel}
-use Rattle.access.specs.Reads.{readFrom}
+use Rattle.access.specs.Reads.{readFrom, readEid}
+use Rattle.access.specs.declared.Read.{Read}
+use Rattle.access.specs.declared.Read.the-variants.{Value, Fault}
 use Rattle.instructions.specs.Action.{Exception}
 use Rattle.machine.specs.Machine.{Machine}
 use Rattle.look.specs.Look.{decoded, lookFrom}
-use Rattle.step.specs.Step.{surroundingsOf, look, stepOf}
+use Rattle.step.specs.Step.{surroundingsOf, look, eidOf, stepOf}
 use Rattle.step.proofs.Looks.{step-done, step-eid}
 
 -- ---- an exception is named for an interrupt that is due, or after a fetch
@@ -23,6 +26,15 @@ module _ (m : Machine) (lines : ℕ) where
       → look m lines ≡ decoded (surroundingsOf m) (m .processor .registers) (m .processor .pc) (readFrom 4 (surroundingsOf m) (m .processor .pc))
   unfolding look lookFrom
   nothing-before-the-fetch h = simp (le-ltb _ _ h)
+
+  -- a fault of the fetch is what the step names
+  pub fetch-fault-named : 32 ≤ channel (m .processor .psw) lines → readEid (readFrom 4 (surroundingsOf m) (m .processor .pc)) < 32
+      → stepOf m lines .event .eid ≡ readEid (readFrom 4 (surroundingsOf m) (m .processor .pc))
+  fetch-fault-named h f = step-eid m lines _ (nothing-before-the-fetch h) ∙ go (readFrom 4 (surroundingsOf m) (m .processor .pc)) f
+    where
+      go : (r : Read) → readEid r < 32 → eidOf (decoded (surroundingsOf m) (m .processor .registers) (m .processor .pc) r) ≡ readEid r
+      go (Value word) l = absurd (omega (arith, l))
+      go (Fault eid) l = refl
 
   -- ---- a fault leaves only the effects of exception entry, and is named
   pub fault-enters : (eid address : ℕ) → look m lines ≡ Exception eid address

@@ -1,6 +1,6 @@
 // The entry of a page in the TLB, looked up or kept from before, and the replacement index (manual, 2.9, 3.6.5 and 3.6.6).
 ghost use mathlib.Core.Path.{_≡_};
-ghost use Rattle.tlb.specs.Lookup.{lookup, foundIndex, nextReplacement, pageOf};
+ghost use Rattle.tlb.specs.Lookup.{noEntry, lookup, foundIndex, nextReplacement, pageOf};
 ghost use mathlib.Core.Bool.{cond};
 ghost use lib.Dec.{leb};
 ghost use lib.ListN.{getD};
@@ -42,7 +42,7 @@ pub fn next_replacement(replacement: u32) -> u32
 
 // The index of an address's page; a direct-mapped address has none.
 pub fn index_of(highs: &Words, address: u32) -> usize
-    ensures { λ r. ⌜ r ≡ cond (leb 0xC0000000 address) 32 (lookup (now (highs .entry)) (pageOf address)) ⌝ }
+    ensures { λ r. ⌜ r ≡ cond (leb 0xC0000000 address) noEntry (lookup (now (highs .entry)) (pageOf address)) ⌝ }
 {
     if address < 0xC000_0000 {
         return find(highs, address / 0x1000);

@@ -42,3 +42,12 @@ module _ {A : Type 0} (at fault : ℕ → A) where
   at-fault TlbInvalid h = refl
   at-fault IllegalAddress h = refl
   at-fault PrivilegedAddress h = refl
+
+  -- and so by its number
+  pub at-number : (t : Translation) → translationEid t < 32 → fault (translationEid t) ≡ resolved at fault t
+  at-number (Physical x) h = absurd (omega (arith, h))
+  at-number TlbMiss h = refl
+  at-number TlbWrite h = refl
+  at-number TlbInvalid h = refl
+  at-number IllegalAddress h = refl
+  at-number PrivilegedAddress h = refl

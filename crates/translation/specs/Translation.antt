@@ -69,6 +69,9 @@ resolved at fault TlbInvalid = fault tlbInvalid
 resolved at fault IllegalAddress = fault illegalAddress
 resolved at fault PrivilegedAddress = fault privilegedAddress
 
--- the exception that an answer names, or `noException`
+-- the numbers of an answer: the exception that it names, or `noException`; and the physical address, 0 where it faults
 abbrev pub translationEid : Translation → ℕ
 translationEid t = resolved (λ address. noException) (λ eid. eid) t
+
+abbrev pub physicalOf : Translation → ℕ
+physicalOf t = resolved (λ address. address) (λ eid. 0) t

@@ -1,4 +1,5 @@
 // The translation of a virtual address to a physical one, or its fault (document 01, "One step"; manual, 2.9).
+use processor::Processor;
 use tlb::Words;
 ghost use mathlib.Core.Path.{_≡_};
 ghost use mathlib.Core.Bool.{not, cond};
@@ -8,6 +9,7 @@ ghost use lib.ListN.{getD};
 ghost use Rattle.translation.specs.Translation.{bytesOf, through, forbidden, translated, translationEid};
 ghost use Rattle.translation.specs.declared.Translation.the-variants.{TlbMiss};
 ghost use Rattle.tlb.specs.Found.{Serves};
+ghost use Rattle.tlb.specs.Lookup.{noEntry};
 
 // The size of an access.
 pub enum Width {
@@ -61,7 +63,7 @@ fn through(low: u32, store: bool, address: u32) -> Translation
 
 // By the index of the page's entry, or 32.
 pub fn entry(lows: &Words, i: usize, store: bool, address: u32) -> Translation
-    ensures { λ r. ⌜ r ≡ cond (ltb i 32) (through (getD (now (lows .entry)) i 0) store address) TlbMiss ⌝ }
+    ensures { λ r. ⌜ r ≡ cond (ltb i noEntry) (through (getD (now (lows .entry)) i 0) store address) TlbMiss ⌝ }
 {
     if i < 32 {
         return through(lows[i], store, address);
@@ -113,11 +115,11 @@ pub fn eid_of(answer: Translation) -> u32
     ensures { λ r. ⌜ r ≡ translationEid answer ⌝ }
 {
     match answer {
-        Translation::Physical(_) => exceptions::NO_EXCEPTION,
-        Translation::TlbMiss => exceptions::TLB_MISS,
-        Translation::TlbWrite => exceptions::TLB_WRITE,
-        Translation::TlbInvalid => exceptions::TLB_INVALID,
-        Translation::IllegalAddress => exceptions::ILLEGAL_ADDRESS,
-        Translation::PrivilegedAddress => exceptions::PRIVILEGED_ADDRESS,
+        Translation::Physical(_) => Processor::NO_EXCEPTION,
+        Translation::TlbMiss => Processor::TLB_MISS,
+        Translation::TlbWrite => Processor::TLB_WRITE,
+        Translation::TlbInvalid => Processor::TLB_INVALID,
+        Translation::IllegalAddress => Processor::ILLEGAL_ADDRESS,
+        Translation::PrivilegedAddress => Processor::PRIVILEGED_ADDRESS,
     }
 }

@@ -102,7 +102,7 @@ fn print_mismatches(counts: Counts) {
     }
 }
 
-// Answers the mismatches, the number that it prints last.
+// Answers the mismatches that it was given.
 pub fn print(counts: Counts, opcodes: &[u32], exceptions: &[u32]) -> u32
     ensures { λ r. ⌜ r ≡ counts .mismatches ⌝ }
 {

@@ -1,7 +1,11 @@
--- Boolean and, for the definitions of the crates above.
+-- Boolean and, and what holds exactly if something else does, for the definitions of the crates above.
 use mathlib.Core.Bool.{Bool, true, false}
 
 -- both tests pass
 abbrev pub both : Bool → Bool → Bool
 both true t = t
 both false t = false
+
+-- the one holds exactly if the other does
+abbrev pub Exactly : Type 0 → Type 0 → Type 0
+Exactly A B = (A → B) × (B → A)

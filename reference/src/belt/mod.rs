@@ -27,6 +27,12 @@ pub fn rom(kernel: &Routine, routine: &Routine) -> Result<Vec<u8>, String> {
     Ok(bytes)
 }
 
+/// The RAM image of both. The firmware clears what it uses, so anything may
+/// stand there.
+pub fn ram() -> Vec<u8> {
+    vec![0xEE; RAM_FRAMES as usize * FRAME_LENGTH]
+}
+
 impl Images {
     pub fn build() -> Result<Images, String> {
         let kernel = kernel::kernel()?;
@@ -45,6 +51,7 @@ impl Images {
         Ok(vec![
             ("belt.rom", rom(&self.kernel, &self.barcode)?),
             ("belt_hostile.rom", rom(&self.kernel, &self.hostile)?),
+            ("belt.ram", ram()),
             ("belt.lst", self.listing().into_bytes()),
             ("image.h", self.header().into_bytes()),
         ])
@@ -88,10 +95,11 @@ impl Images {
     }
 }
 
-fn constants() -> [(&'static str, u32); 17] {
+fn constants() -> [(&'static str, u32); 18] {
     [
         ("RAM_LENGTH", RAM_FRAMES * FRAME_LENGTH as u32),
         ("ROM_LENGTH", ROM_LENGTH as u32),
+        ("ROUTINE", FRAME_LENGTH as u32),
         ("KERNEL_PAGE", KERNEL_FRAME_AT >> 12),
         ("OUTCOME", OUTCOME),
         ("OUTCOME_DONE", OUTCOME_DONE),

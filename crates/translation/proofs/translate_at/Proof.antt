@@ -22,7 +22,11 @@ unfolding translated
 returns-3 c =
     let second = c .before .before in
     let first = second .before in
-    simp (sym (first .before .is-misaligned .ensures) ∙ first .if1 .left, sym (second .is-forbidden .ensures) ∙ c .before .if2 .left, le-leb _ _ (c .if3 .taken))
+    simp (
+      sym (first .before .is-misaligned .ensures) ∙ first .if1 .left,
+      sym (second .is-forbidden .ensures) ∙ c .before .if2 .left,
+      le-leb _ _ (c .if3 .taken),
+    )
 
 returns-4 : tie.Need-returns-4
 unfolding translated mapped

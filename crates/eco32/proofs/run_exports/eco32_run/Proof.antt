@@ -1,4 +1,4 @@
--- `eco32::run_calls::eco32_run` meets its contract, by that of `run_calls::call`.
+-- `eco32::run_exports::eco32_run` meets its contract, by that of `run_calls::call`.
 use borrow.Author.Needs.{needs}
 use Rattle.eco32.proofs.run_exports.eco32_run.Statement.{statement}
 use Rattle.eco32.proofs.run_exports.eco32_run.Tie as tie

@@ -1,0 +1,144 @@
+-- A refusal comes only for its cause, of every call; and when a run is accepted.
+use mathlib.Core.Path.{_≡_, refl, sym, subst, _∙_}
+use mathlib.Core.Bool.{Bool, true, false, cond}
+use mathlib.Core.List.{List, [], _∷_}
+use Prim.Native.Nat.{ℕ}
+use lib.Dec.{eqb}
+use lib.ListN.{length}
+use borrow.Author.Tests.{eqb-true, eq-eqb}
+use Rattle.words.specs.Logic.{Exactly}
+use Rattle.words.proofs.Every.{_&_}
+use Rattle.memory.specs.Map.{Memory}
+use Rattle.processor.specs.declared.Processor.{Processor}
+use Rattle.processor.specs.State.{fit}
+use Rattle.record_layout.specs.Record.{kindsInPlace, processorOf}
+use Rattle.machine.specs.Machine.{Machine}
+use Rattle.step.specs.Step.{Stepped}
+use Rattle.refusals.specs.Refusal.{runTests, runRefusal}
+use Rattle.refusals.specs.Cause.{OnlyForItsCause, RamLength, RomLength, BeltLength, Steps}
+use Rattle.refusals.proofs.Lengths.{ram-accepted, rom-accepted, belt-accepted, steps-accepted}
+use Rattle.refusals.proofs.Cause.{only-for-its-cause}
+use Rattle.run_loop.specs.Run.{Request, Outcome, counted, countedAll, runFrom, runOf}
+use Rattle.run_calls.specs.Runs.{callTests, callRefusal, machineIn, recorded, called, callOf}
+use Rattle.record.specs.Calls.{recordTests, readRefusal, writeTests, writeRefusal}
+use Rattle.record_calls.specs.Records.{resetTests, resetRefusal, copyTests, copyRefusal}
+use Rattle.record_calls.specs.Views.{callViewTests, callViewRefusal, callViewOf}
+use Rattle.page_view.specs.View.{viewTests, viewRefusal, viewOf}
+use Rattle.acceptance.specs.Claim.{OnlyForCauses, Accepted}
+
+-- ---- runs
+
+-- no step changes the number
+keeps-the-number : (q : Request) (o : Outcome) (ss : List Stepped) → countedAll q o ss .answer .refusal ≡ o .answer .refusal
+unfolding countedAll
+keeps-the-number q o [] = refl
+keeps-the-number q o (s ∷ ss) = keeps-the-number q (counted q o s) ss
+
+pub run-answers : (q : Request) (m : Machine) → runOf q m .answer .refusal ≡ runRefusal m (q .wanted)
+unfolding runOf
+run-answers q m = keeps-the-number q _ _
+
+pub run : (q : Request) (m : Machine) → OnlyForItsCause (1 ∷ 2 ∷ 3 ∷ 6 ∷ 7 ∷ []) (runTests m (q .wanted)) (runOf q m .answer .refusal)
+unfolding runRefusal
+run q m = subst (OnlyForItsCause _ (runTests m (q .wanted))) (sym (run-answers q m)) (only-for-its-cause (runTests m (q .wanted)) refl)
+
+pub call-answers : (q : Request) (s : List ℕ) (m : Memory) → callOf q s m .answer .refusal ≡ callRefusal s m (q .wanted)
+unfolding callOf runFrom
+call-answers q s m = go (eqb r 0) refl
+  where
+    r : ℕ
+    r = callRefusal s m (q .wanted)
+
+    go : (t : Bool) → eqb r 0 ≡ t
+        → cond t (recorded (runFrom q (q .wanted) 0 (machineIn s m))) (called s m r 0 32) .answer .refusal ≡ r
+    go true e = keeps-the-number q _ _ ∙ sym (eqb-true r 0 e)
+    go false e = refl
+
+pub exported-run : (q : Request) (s : List ℕ) (m : Memory)
+    → OnlyForItsCause (1 ∷ 2 ∷ 3 ∷ 4 ∷ 5 ∷ 6 ∷ 7 ∷ []) (callTests s m (q .wanted)) (callOf q s m .answer .refusal)
+unfolding callRefusal
+exported-run q s m =
+    subst (OnlyForItsCause _ (callTests s m (q .wanted))) (sym (call-answers q s m)) (only-for-its-cause (callTests s m (q .wanted)) refl)
+
+-- ---- records
+
+read : (s : List ℕ) → OnlyForItsCause (4 ∷ 5 ∷ 6 ∷ []) (recordTests s) (readRefusal s)
+unfolding readRefusal
+read s = only-for-its-cause (recordTests s) refl
+
+write : (p : Processor) (s : List ℕ) → OnlyForItsCause (4 ∷ 6 ∷ []) (writeTests p s) (writeRefusal p s)
+unfolding writeRefusal
+write p s = only-for-its-cause (writeTests p s) refl
+
+exported-reset : (buffer : List ℕ) → OnlyForItsCause (4 ∷ []) (resetTests buffer) (resetRefusal buffer)
+unfolding resetRefusal
+exported-reset buffer = only-for-its-cause (resetTests buffer) refl
+
+exported-copy : (from buffer : List ℕ) → OnlyForItsCause (4 ∷ 4 ∷ 5 ∷ 6 ∷ []) (copyTests from buffer) (copyRefusal from buffer)
+unfolding copyRefusal
+exported-copy from buffer = only-for-its-cause (copyTests from buffer) refl
+
+-- ---- page views
+
+view : (ram : List ℕ) (p : Processor) (page : ℕ)
+    → OnlyForItsCause (1 ∷ 6 ∷ 8 ∷ []) (viewTests ram p page) (viewOf ram p page .refusal)
+unfolding viewOf viewRefusal
+view ram p page = only-for-its-cause (viewTests ram p page) refl
+
+exported-view : (ram s : List ℕ) (page : ℕ)
+    → OnlyForItsCause (1 ∷ 4 ∷ 5 ∷ 6 ∷ 8 ∷ []) (callViewTests ram s page) (callViewOf ram s page .refusal)
+unfolding callViewOf callViewRefusal
+exported-view ram s page = only-for-its-cause (callViewTests ram s page) refl
+
+-- ---- all of them
+
+pub only-for-causes : OnlyForCauses
+only-for-causes =
+    record {
+      run = run;
+      exported-run = exported-run;
+      read = read;
+      write = write;
+      exported-reset = exported-reset;
+      exported-copy = exported-copy;
+      view = view;
+      exported-view = exported-view;
+    }
+
+-- ---- an accepted run
+
+accepted-run : (q : Request) (m : Machine) → Exactly (runOf q m .answer .refusal ≡ 0) (
+    RamLength (length (m .memory .ram)) × RomLength (length (m .memory .rom)) × BeltLength (length (m .memory .belt))
+    × (fit (m .processor) ≡ true) × Steps (q .wanted))
+accepted-run q m = (
+  (λ e.
+      let t = run q m .accepted .0 e in
+      (ram-accepted _ .0 (t .0), rom-accepted _ .0 (t .1 .0), belt-accepted _ .0 (t .1 .1 .0), t .1 .1 .1 .0, steps-accepted _ .0 (t .1 .1 .1 .1 .0))),
+  (λ h.
+      run q m .accepted .1
+      (ram-accepted _ .1 (h .0) & rom-accepted _ .1 (h .1) & belt-accepted _ .1 (h .2) & h .3 & steps-accepted _ .1 (h .4) & tt)),
+)
+
+accepted-exported : (q : Request) (s : List ℕ) (m : Memory) → Exactly (callOf q s m .answer .refusal ≡ 0) (
+    RamLength (length (m .ram)) × RomLength (length (m .rom)) × BeltLength (length (m .belt))
+    × (length s ≡ 414) × (kindsInPlace s ≡ true) × (fit (processorOf s) ≡ true) × Steps (q .wanted))
+accepted-exported q s m = (
+  (λ e.
+      let t = exported-run q s m .accepted .0 e in
+      let r = t .1 .1 .1 in (
+        ram-accepted _ .0 (t .0),
+        rom-accepted _ .0 (t .1 .0),
+        belt-accepted _ .0 (t .1 .1 .0),
+        eqb-true _ _ (r .0),
+        r .1 .0,
+        r .1 .1 .0,
+        steps-accepted _ .0 (r .1 .1 .1 .0),
+      )),
+  (λ h.
+      exported-run q s m .accepted .1
+      (ram-accepted _ .1 (h .0) & rom-accepted _ .1 (h .1) & belt-accepted _ .1 (h .2) & eq-eqb _ _ (h .3) & h .4 & h .5
+      & steps-accepted _ .1 (h .6) & tt)),
+)
+
+pub accepted : Accepted
+accepted = record { run = accepted-run; exported-run = accepted-exported }

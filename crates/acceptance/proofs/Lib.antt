@@ -1,0 +1,3 @@
+-- The theorems of `acceptance`.
+pub mod Causes
+pub mod NeverRefused

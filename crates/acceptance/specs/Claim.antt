@@ -1,0 +1,57 @@
+-- Which calls are accepted, of every call of the part (document 01, "Refused calls").
+use mathlib.Core.Path.{_≡_}
+use mathlib.Core.Bool.{true}
+use mathlib.Core.List.{List, [], _∷_}
+use Prim.Native.Nat.{ℕ}
+use lib.ListN.{length}
+use Rattle.words.specs.Logic.{Exactly}
+use Rattle.memory.specs.Map.{Memory}
+use Rattle.processor.specs.declared.Processor.{Processor}
+use Rattle.processor.specs.State.{fit}
+use Rattle.machine.specs.Machine.{Machine, Bytes, Representable}
+use Rattle.refusals.specs.Refusal.{runTests}
+use Rattle.refusals.specs.Cause.{OnlyForItsCause, RamLength, RomLength, BeltLength, Steps}
+use Rattle.run_loop.specs.Run.{Request, runOf}
+use Rattle.run_calls.specs.Runs.{callTests, callOf}
+use Rattle.record_layout.specs.Record.{kindsInPlace, processorOf}
+use Rattle.record.specs.Calls.{recordTests, readRefusal, writeTests, writeRefusal}
+use Rattle.record_calls.specs.Records.{resetTests, resetRefusal, copyTests, copyRefusal}
+use Rattle.record_calls.specs.Views.{callViewTests, callViewOf}
+use Rattle.page_view.specs.View.{viewTests, viewOf}
+use Rattle.isolation.specs.Trace.{Call, callOutcome}
+
+-- "a refusal comes only for its cause": for each call the numbers that it may answer, in the order of their tests
+pub record OnlyForCauses : Type 0 where
+  pub run : (q : Request) (m : Machine) → OnlyForItsCause (1 ∷ 2 ∷ 3 ∷ 6 ∷ 7 ∷ []) (runTests m (q .wanted)) (runOf q m .answer .refusal)
+  pub exported-run : (q : Request) (s : List ℕ) (m : Memory)
+      → OnlyForItsCause (1 ∷ 2 ∷ 3 ∷ 4 ∷ 5 ∷ 6 ∷ 7 ∷ []) (callTests s m (q .wanted)) (callOf q s m .answer .refusal)
+  pub read : (s : List ℕ) → OnlyForItsCause (4 ∷ 5 ∷ 6 ∷ []) (recordTests s) (readRefusal s)
+  pub write : (p : Processor) (s : List ℕ) → OnlyForItsCause (4 ∷ 6 ∷ []) (writeTests p s) (writeRefusal p s)
+  pub exported-reset : (buffer : List ℕ) → OnlyForItsCause (4 ∷ []) (resetTests buffer) (resetRefusal buffer)
+  -- reading and writing, from one list of bytes to another
+  pub exported-copy : (from buffer : List ℕ) → OnlyForItsCause (4 ∷ 4 ∷ 5 ∷ 6 ∷ []) (copyTests from buffer) (copyRefusal from buffer)
+  pub view : (ram : List ℕ) (p : Processor) (page : ℕ)
+      → OnlyForItsCause (1 ∷ 6 ∷ 8 ∷ []) (viewTests ram p page) (viewOf ram p page .refusal)
+  pub exported-view : (ram s : List ℕ) (page : ℕ)
+      → OnlyForItsCause (1 ∷ 4 ∷ 5 ∷ 6 ∷ 8 ∷ []) (callViewTests ram s page) (callViewOf ram s page .refusal)
+
+-- "Success is 0": when a run is accepted, in the words of the table
+pub record Accepted : Type 0 where
+  pub run : (q : Request) (m : Machine) → Exactly (runOf q m .answer .refusal ≡ 0) (
+      RamLength (length (m .memory .ram)) × RomLength (length (m .memory .rom)) × BeltLength (length (m .memory .belt))
+      × (fit (m .processor) ≡ true) × Steps (q .wanted))
+  pub exported-run : (q : Request) (s : List ℕ) (m : Memory) → Exactly (callOf q s m .answer .refusal ≡ 0) (
+      RamLength (length (m .ram)) × RomLength (length (m .rom)) × BeltLength (length (m .belt))
+      × (length s ≡ 414) × (kindsInPlace s ≡ true) × (fit (processorOf s) ≡ true) × Steps (q .wanted))
+
+-- "a faulting program .. is never refused": after an accepted run, every run of at most 1,000,000 steps on what it left is accepted
+pub record NeverRefused : Type 0 where
+  pub by-value : (q : Request) (m : Machine) → runOf q m .answer .refusal ≡ 0
+      → (later : Request) → Steps (later .wanted) → runOf later (runOf q m .machine) .answer .refusal ≡ 0
+  -- any bytes that were accepted as a machine's record, and what the call left in the buffer and in the lent memory
+  pub exported : (q : Request) (s : List ℕ) (m : Memory) → Bytes s → Bytes (m .ram) → Bytes (m .rom) → Bytes (m .belt)
+      → callOf q s m .answer .refusal ≡ 0
+      → (later : Request) → Steps (later .wanted) → callOf later (callOf q s m .buffer) (callOf q s m .memory) .answer .refusal ≡ 0
+  -- two runs, each by value or exported
+  pub by-any : (c : Call) (m : Machine) → Representable m → callOutcome c m .answer .refusal ≡ 0
+      → (later : Call) → Steps (later .request .wanted) → callOutcome later (callOutcome c m .machine) .answer .refusal ≡ 0

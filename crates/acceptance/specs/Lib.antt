@@ -1,0 +1,2 @@
+-- The definitions of `acceptance`.
+pub mod Claim

@@ -1,0 +1,1 @@
+// Which calls are refused, and that what a run leaves is accepted: theorems, no code.

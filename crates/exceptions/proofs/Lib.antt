@@ -1,2 +1,0 @@
--- The laws of `exceptions`.
-pub mod EntryLaws

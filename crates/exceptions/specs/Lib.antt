@@ -1,2 +1,0 @@
--- The definitions of `exceptions`.
-pub mod Entry

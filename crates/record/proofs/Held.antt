@@ -1,0 +1,31 @@
+-- The processor that bytes hold is a value of the code's type, whether they are a record or not.
+use mathlib.Core.List.{List}
+use Prim.Native.Nat.{ℕ, _^_, _<_}
+use native.Mathlib.Omega.{arith}
+use lib.ListN.{getD}
+use Rattle.endian.specs.BigEndian.{readAt}
+use Rattle.endian.proofs.Widths.{read-lt}
+use Rattle.arrays.proofs.ReadLaws.{words-count, words-lt}
+use Rattle.record_layout.specs.Record.{processorOf}
+use Rattle.record.proofs.WrittenRead.{Value}
+
+module _ (s : List ℕ) (h : (j : ℕ) → getD s j 0 < 256) where
+  word : (at : ℕ) → readAt 4 s at < 2 ^ 32
+  word at = omega (arith, read-lt 4 s at h)
+
+  pub held-value : Value (processorOf s)
+  unfolding processorOf
+  held-value =
+      record {
+        arrays = record { registers = words-count s h 4 32 _; highs = words-count s h 8 32 _; lows = words-count s h 8 32 _ };
+        registers = words-lt s h 4 32 _;
+        pc = word _;
+        psw = word _;
+        index = word _;
+        entryhigh = word _;
+        entrylow = word _;
+        badaddress = word _;
+        highs = words-lt s h 8 32 _;
+        lows = words-lt s h 8 32 _;
+        replacement = omega (arith, read-lt 1 s 413 h);
+      }
