@@ -4,7 +4,7 @@
 #   make week                          the library and the belt's week (examples/belt)
 #   make check                         the tests that need no proof, in under a minute
 #   make test                          the gate, .ci/run
-#   make bench                         the model's speed beside a plain C simulator's and the Rust simulator's
+#   make bench                         the model's speed beside a plain C simulator's and the Rust simulator's; its code at six places
 #   make install PREFIX=.. [DESTDIR=..]  headers, libraries, files for pkg-config and CMake, documents, host and its page
 #   make uninstall PREFIX=.. [DESTDIR=..]
 #   make clean                         away with what make built, the library too
@@ -36,6 +36,7 @@ SONAME = libeco32.so.$(ABI)
 SHARED_NAME = $(SONAME).$(word 2,$(subst ., ,$(VERSION))).$(word 3,$(subst ., ,$(VERSION)))
 SHARED = target/shared/$(SHARED_NAME)
 MANUAL = target/man/eco32.1
+MADE_OF_PROOFS = $(LIBRARY) target/shared/libeco32.so* $(HOST) $(BELT) $(BENCH) $(PLACEMENTS)
 
 # The bench: -O3 for C, as cargo's release profile has it for Rust. BENCH_FLAGS may be --steps N and --rounds N.
 BENCH = target/bench/bench
@@ -46,6 +47,7 @@ BENCH_RUST = target/bench/rust/release/libeco32_bench.a
 PLAIN_OBJECTS = target/bench/plain.o target/bench/record.o
 BENCH_OBJECTS = target/bench/bench.o target/bench/images.o $(PLAIN_OBJECTS)
 REPLAY_OBJECTS = target/bench/replay.o $(PLAIN_OBJECTS)
+PLACEMENTS = $(addprefix target/bench/placed-,0 32 96 208 1056 2100)
 
 # What the library is proved and made of. The directories stand for files that are gone.
 PROVED := $(shell find crates.txt crates/*/src crates/*/specs crates/*/proofs 2>/dev/null)
@@ -58,18 +60,20 @@ WEEK = examples/belt/belt.rom examples/belt/belt.ram examples/belt/packs.txt exa
 
 all: $(LIBRARY) $(HOST)
 
-# rt itself knows which crates have to be proved again. `rt check` proves several at a time, `rt staticlib` then finds them proved. rt waits
-# for the slowest of those that it started together: two for each core leave less of them idle. A prover takes up to a GiB.
-# A line for each crate is printed; the rest of what rt says is in the log. No old library stays where a proof fails.
+# rt itself knows which crates have to be proved again. `rt check` proves several at a time, `rt staticlib` then finds them proved. One prover
+# more than there are cores, as in .ci/run, which says why. A prover takes up to a GiB.
+# A line for each crate is printed; the rest of what rt says is in the log. Where a proof fails no old library stays, static or shared, nor a
+# program that has one in it.
 $(LIBRARY): $(PROVED)
 	@command -v rt >/dev/null || { \
-	    echo 'make: rt is not on the PATH. It proves and builds the library, and comes with the Rattle kit that .ci/kit names:' \
-	        'see README.md, "Two commands"' >&2; exit 2; }
+	    echo 'make: rt is not on the PATH. It proves and builds the library. Put the rt of the Rattle kit on the PATH:' \
+	        '`rt version` then prints the line of .ci/kit' >&2; exit 2; }
 	@mkdir -p $(@D)
 	@echo 'rt proves and builds $@, a line for each crate; all that it says is in $(LIBRARY_LOG)'
-	@{ { [ ! -e crates.txt ] || RT_JOBS=$${RT_JOBS:-$$((2 * $$(nproc)))} rt check eco32; } && rt staticlib eco32; echo "status $$?"; } 2>&1 | tee $(LIBRARY_LOG) | \
+	@{ { [ ! -e crates.txt ] || RT_JOBS=$${RT_JOBS:-$$(($$(nproc) + 1))} rt check eco32; } && rt staticlib eco32; \
+	    echo "status $$?"; } 2>&1 | tee $(LIBRARY_LOG) | \
 	    while IFS= read -r line; do case $$line in 'rt: '*' proved ('*' s)' | 'rt: '*'NOT PROVED'*) printf '%s\n' "$$line" ;; esac; done
-	@[ "$$(tail -n 1 $(LIBRARY_LOG))" = 'status 0' ] || { rm -f $@; tail -n 20 $(LIBRARY_LOG) | cut -c 1-300 >&2; \
+	@[ "$$(tail -n 1 $(LIBRARY_LOG))" = 'status 0' ] || { rm -f $(MADE_OF_PROOFS); tail -n 20 $(LIBRARY_LOG) | cut -c 1-300 >&2; \
 	    echo 'make: $@ is not proved: $(LIBRARY_LOG) has all that rt said' >&2; exit 2; }
 
 # The archive is position-independent: no -no-pie is needed.
@@ -82,7 +86,7 @@ target/host/%.o: host/%.c
 
 -include $(OBJECTS:.o=.d) $(BENCH_OBJECTS:.o=.d) target/bench/replay.d
 
-$(BELT): $(BELT_SOURCES) $(wildcard examples/belt/*.h) include/eco32.h $(LIBRARY)
+$(BELT): $(BELT_SOURCES) $(wildcard examples/belt/*.h include/*.h) $(LIBRARY)
 	@$(CC) -std=c11 $(WARNINGS) $(CPPFLAGS) $(CFLAGS) $(LDFLAGS) -Iinclude $(BELT_SOURCES) $(LIBRARY) $(LDLIBS) -o $@
 
 week: $(BELT)
@@ -94,12 +98,22 @@ check:
 test:
 	.ci/run
 
-bench: $(BENCH)
+# Where the same code lies in the program moves its pace by a tenth. So the bench runs again with some bytes before the library's code.
+bench: $(BENCH) $(PLACEMENTS)
 	$(BENCH) $(BENCH_FLAGS)
+	@echo
+	@reference/bench/placements $(BENCH_FLAGS) -- $(PLACEMENTS)
 
 # The last three are for Rust's standard library.
 $(BENCH): $(BENCH_OBJECTS) $(LIBRARY) $(BENCH_RUST)
 	$(CC) $(BENCH_CFLAGS) $(LDFLAGS) $^ -lpthread -ldl -lm -o $@
+
+target/bench/pad-%.o:
+	@mkdir -p $(@D)
+	printf '.text\n.fill $*\n.section .note.GNU-stack,"",@progbits\n' | $(CC) -c -x assembler - -o $@
+
+target/bench/placed-%: target/bench/pad-%.o $(BENCH_OBJECTS) $(LIBRARY) $(BENCH_RUST)
+	$(CC) $(BENCH_CFLAGS) $(LDFLAGS) $(BENCH_OBJECTS) $< $(LIBRARY) $(BENCH_RUST) -lpthread -ldl -lm -o $@
 
 $(REPLAY): $(REPLAY_OBJECTS)
 	$(CC) $(BENCH_CFLAGS) $(LDFLAGS) $^ -o $@

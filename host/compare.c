@@ -18,7 +18,7 @@ int compare_read(const struct options *options, const struct world *world, struc
 {
     static const struct pair_form form = {1, UINT32_MAX, UINT32_MAX,
                                           "not a line \"ADDRESS VALUE\", both hexadecimal up to FFFFFFFF",
-                                          "no line \"ADDRESS VALUE\" in it: nothing to compare"};
+                                          "has no line \"ADDRESS VALUE\": there is nothing to compare"};
     const char *path = options->given[OPTION_COMPARE];
     int status = path == NULL ? STATUS_GOOD : pairs_read(path, &form, words);
 

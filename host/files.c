@@ -17,7 +17,7 @@ static int read_stream(FILE *file, const char *path, size_t guess, size_t most, 
 
     for (;;) {
         if (!bytes_grow(bytes, room))
-            return say_no_memory();
+            return say_no_memory(path, NULL);
         errno = 0;
         used += fread(bytes->at + used, 1, room - used, file);
         if (ferror(file))

@@ -26,15 +26,15 @@ static int read_refused(const char *path, size_t most, uint32_t refusal, struct 
     return status == FILE_LONGER ? say_refused(path, NULL, refusal) : status;
 }
 
-static int grow(struct bytes *bytes, size_t length)
+static int grow(struct bytes *bytes, size_t length, const char *subject, const char *value)
 {
-    return bytes_grow(bytes, length) ? STATUS_GOOD : say_no_memory();
+    return bytes_grow(bytes, length) ? STATUS_GOOD : say_no_memory(subject, value);
 }
 
 /* An image without a byte is nearly always one that was not built. */
 static int check_image(const char *path, const struct bytes *image)
 {
-    return image->length != 0 ? STATUS_GOOD : say_bad(path, "an empty image");
+    return image->length != 0 ? STATUS_GOOD : say_bad(path, "the image is empty");
 }
 
 static int make_rom(const struct options *options, struct world *world)
@@ -43,7 +43,7 @@ static int make_rom(const struct options *options, struct world *world)
 
     if (status == STATUS_GOOD)
         status = check_image(options->rom, &world->rom);
-    return status == STATUS_GOOD ? grow(&world->rom, padded(world->rom.length)) : status;
+    return status == STATUS_GOOD ? grow(&world->rom, padded(world->rom.length), options->rom, NULL) : status;
 }
 
 static int say_longer(const char *path, const char *size)
@@ -69,7 +69,7 @@ static int make_sized_ram(const struct options *options, struct world *world)
         return say_longer(options->ram, text);
     if (status == STATUS_GOOD && options->ram != NULL)
         status = check_image(options->ram, &world->ram);
-    return status == STATUS_GOOD ? grow(&world->ram, size) : status;
+    return status == STATUS_GOOD ? grow(&world->ram, size, "--ram-size", text) : status;
 }
 
 static int make_ram(const struct options *options, struct world *world)
@@ -84,7 +84,9 @@ static int make_ram(const struct options *options, struct world *world)
     if (status == STATUS_GOOD && options->ram != NULL)
         status = check_image(options->ram, &world->ram);
     size = padded(world->ram.length);
-    return status == STATUS_GOOD ? grow(&world->ram, size < RAM_USUAL ? RAM_USUAL : size) : status;
+    if (status != STATUS_GOOD)
+        return status;
+    return grow(&world->ram, size < RAM_USUAL ? RAM_USUAL : size, options->ram != NULL ? options->ram : "RAM", NULL);
 }
 
 static int make_belt(const struct options *options, struct world *world)
@@ -92,7 +94,7 @@ static int make_belt(const struct options *options, struct world *world)
     const char *path = options->given[OPTION_BELT];
 
     if (path == NULL)
-        return grow(&world->belt, ECO32_BELT_LENGTH);
+        return grow(&world->belt, ECO32_BELT_LENGTH, "belt registers", NULL);
     return read_refused(path, ECO32_BELT_LENGTH, ECO32_REFUSED_BELT_LENGTH, &world->belt);
 }
 

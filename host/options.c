@@ -97,7 +97,7 @@ static int take_files(int count, char **words, struct options *options)
     if (optind + 1 < count)
         options->ram = words[optind + 1];
     if (optind + 2 < count)
-        return say_bad(words[optind + 2], "a third file; eco32 takes ROM and RAM (see --help)");
+        return say_bad(words[optind + 2], "a third file: eco32 takes only ROM and RAM (see --help)");
     return STATUS_GOOD;
 }
 
@@ -119,9 +119,9 @@ static int take_all_hex(enum option_name option, uint64_t most, const char *says
 
 static int take_hexadecimals(struct options *options)
 {
-    static const char pc_says[] = "no hexadecimal address up to FFFFFFFF";
+    static const char pc_says[] = "not a hexadecimal address up to FFFFFFFF";
     uint64_t lines = 0;
-    int status = take_hex(OPTION_LINES, options->given[OPTION_LINES], UINT16_MAX, "no hexadecimal number up to FFFF",
+    int status = take_hex(OPTION_LINES, options->given[OPTION_LINES], UINT16_MAX, "not a hexadecimal number up to FFFF",
                           &lines);
 
     options->lines = (uint16_t)lines;
@@ -130,7 +130,7 @@ static int take_hexadecimals(struct options *options)
     if (status == STATUS_GOOD)
         status = take_all_hex(OPTION_BREAK, UINT32_MAX, pc_says, &options->breaks);
     if (status == STATUS_GOOD)
-        status = take_all_hex(OPTION_VIEW, UINT64_MAX, "no hexadecimal page number", &options->views);
+        status = take_all_hex(OPTION_VIEW, UINT64_MAX, "not a hexadecimal page number", &options->views);
     return status;
 }
 
@@ -141,12 +141,12 @@ static int take_decimals(struct options *options)
     const char *first = options->given[OPTION_FIRST_STEP];
 
     if (size != NULL && !number_size(size, &options->ram_size))
-        return say_bad_value("--ram-size", size, "no number of bytes, nor one with k, KiB, M or MiB behind it");
+        return say_bad_value("--ram-size", size, "not a number of bytes, with or without the suffix k, KiB, M or MiB");
     if (steps != NULL && !number_count(steps, &options->steps))
-        return say_bad_value("--steps", steps, "no number up to 18446744073709551615, nor one with k, M or G behind it");
+        return say_bad_value("--steps", steps, "not a number up to 18446744073709551615, with or without the suffix k, M or G");
     if (first != NULL && (!number_decimal(first, strlen(first), INT64_MAX, &options->first_step) ||
                           options->first_step == 0))
-        return say_bad_value("--first-step", first, "no number from 1 to 9223372036854775807");
+        return say_bad_value("--first-step", first, "not a number from 1 to 9223372036854775807");
     return STATUS_GOOD;
 }
 

@@ -18,11 +18,11 @@ static int are_one(const struct output *a, const struct output *b)
     return is_file(a, &b->stat) || (!a->exists && !b->exists && strcmp(a->place, b->place) == 0);
 }
 
-static int say_same(const struct output *output, const char *other)
+static int say_same(const struct output *output, const char *other, const char *more)
 {
     char message[80];
 
-    snprintf(message, sizeof message, "the same file as that of %s", other);
+    snprintf(message, sizeof message, "the same file as %s%s", other, more);
     return say_bad_value(output->option, output->path, message);
 }
 
@@ -30,16 +30,17 @@ static int say_same(const struct output *output, const char *other)
 static int check_inputs(const struct options *options, const struct output *output)
 {
     static const enum option_name read[] = {OPTION_LOAD, OPTION_BELT, OPTION_LINES_SCRIPT, OPTION_COMPARE};
+    static const char is_input[] = ", which is an input";
     struct stat input;
 
     if (stat(options->rom, &input) == 0 && is_file(output, &input))
-        return say_same(output, "ROM, which is read");
+        return say_same(output, "the ROM image", is_input);
     if (options->ram != NULL && stat(options->ram, &input) == 0 && is_file(output, &input))
-        return say_same(output, "RAM, which is read");
+        return say_same(output, "the RAM image", is_input);
     for (size_t i = 0; i < sizeof read / sizeof read[0]; i++) {
         const char *path = options->given[read[i]];
         if (path != NULL && stat(path, &input) == 0 && is_file(output, &input))
-            return say_same(output, option_text(read[i]));
+            return say_same(output, option_text(read[i]), is_input);
     }
     return STATUS_GOOD;
 }
@@ -50,9 +51,9 @@ static int check_streams(const struct output *output)
     struct stat stream;
 
     if (fstat(STDOUT_FILENO, &stream) == 0 && S_ISREG(stream.st_mode) && is_file(output, &stream))
-        return say_same(output, "standard output");
+        return say_same(output, "standard output", "");
     if (fstat(STDERR_FILENO, &stream) == 0 && S_ISREG(stream.st_mode) && is_file(output, &stream))
-        return say_same(output, "standard error");
+        return say_same(output, "standard error", "");
     return STATUS_GOOD;
 }
 
@@ -66,7 +67,7 @@ static int try_one(const struct options *options, struct outputs *outputs, int w
         return say_bad_value(output->option, output->path, strerror(failed));
     for (int i = 0; i < which; i++)
         if (outputs->each[i].path != NULL && are_one(&outputs->each[i], output))
-            return say_same(output, outputs->each[i].option);
+            return say_same(output, outputs->each[i].option, "");
     status = check_inputs(options, output);
     return status == STATUS_GOOD ? check_streams(output) : status;
 }

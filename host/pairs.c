@@ -102,7 +102,7 @@ int pairs_read(const char *path, const struct pair_form *form, struct pairs *pai
     if (status == STATUS_GOOD) {
         struct part text = {(const char *)bytes.at, bytes.length};
         pairs->at = calloc(most_pairs(text), sizeof *pairs->at);
-        status = pairs->at == NULL ? say_no_memory() : read_lines(text, path, form, pairs);
+        status = pairs->at == NULL ? say_no_memory(path, NULL) : read_lines(text, path, form, pairs);
     }
     bytes_free(&bytes);
     return status;

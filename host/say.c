@@ -58,10 +58,9 @@ int say_bad_line(const struct place *place, const char *message)
     return STATUS_BAD;
 }
 
-int say_no_memory(void)
+int say_no_memory(const char *subject, const char *value)
 {
-    fprintf(stderr, "eco32: not enough memory\n");
-    return STATUS_BAD;
+    return say_bad_value(subject, value, "not enough memory");
 }
 
 int say_refused(const char *subject, const char *value, uint32_t refusal)

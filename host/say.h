@@ -31,8 +31,9 @@ int say_bad_value(const char *option, const char *value, const char *message);
 /* "eco32: PATH:LINE: 'TEXT': MESSAGE". Answers STATUS_BAD. */
 int say_bad_line(const struct place *place, const char *message);
 
-/* Answers STATUS_BAD. */
-int say_no_memory(void);
+/* Says what the memory was for: a file, an option with its value, or a part of the machine. `value` may be null.
+ * Answers STATUS_BAD. */
+int say_no_memory(const char *subject, const char *value);
 
 /* Says what was refused, by which number and why; `value` may be null. Answers STATUS_REFUSED plus the number. */
 int say_refused(const char *subject, const char *value, uint32_t refusal);

@@ -17,7 +17,7 @@ static int say_bad_step(const char *path, const struct pair *pair)
 int script_read(const struct options *options, struct pairs *script)
 {
     static const struct pair_form form = {0, UINT64_MAX, UINT16_MAX, "not a line \"STEP HEX\", with lines up to FFFF",
-                                          "no line \"STEP HEX\" in it"};
+                                          "has no line \"STEP HEX\""};
     const char *path = options->given[OPTION_LINES_SCRIPT];
     int status = path == NULL ? STATUS_GOOD : pairs_read(path, &form, script);
 

@@ -1,44 +1,38 @@
 #include "state.h"
 
 #include "bytes.h"
-
-/* Where each item's body begins: one behind its kind byte. */
-#define REGISTERS_AT 1
-#define PC_AT 130
-#define SPECIALS_AT 135
-#define TLB_AT 156
-#define REPLACEMENT_AT 413
+#include "eco32.h"
 
 #define PSW_USER_MODE 0x04000000
 
 uint32_t state_register(const uint8_t *machine, unsigned number)
 {
-    return word_at(machine + REGISTERS_AT + 4 * number);
+    return word_at(machine + ECO32_RECORD_REGISTERS + 4 * number);
 }
 
 uint32_t state_pc(const uint8_t *machine)
 {
-    return word_at(machine + PC_AT);
+    return word_at(machine + ECO32_RECORD_PC);
 }
 
 uint32_t state_special(const uint8_t *machine, enum special special)
 {
-    return word_at(machine + SPECIALS_AT + 4 * (unsigned)special);
+    return word_at(machine + ECO32_RECORD_PSW + 4 * (unsigned)special);
 }
 
 uint32_t state_tlb_high(const uint8_t *machine, unsigned slot)
 {
-    return word_at(machine + TLB_AT + 8 * slot);
+    return word_at(machine + ECO32_RECORD_TLB + 8 * slot);
 }
 
 uint32_t state_tlb_low(const uint8_t *machine, unsigned slot)
 {
-    return word_at(machine + TLB_AT + 8 * slot + 4);
+    return word_at(machine + ECO32_RECORD_TLB + 8 * slot + 4);
 }
 
 uint32_t state_replacement(const uint8_t *machine)
 {
-    return machine[REPLACEMENT_AT];
+    return machine[ECO32_RECORD_REPLACEMENT];
 }
 
 char state_mode(const uint8_t *machine)

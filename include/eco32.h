@@ -33,10 +33,10 @@
 extern "C" {
 #endif
 
-/* The version of library and host. It stands here alone: all else that names it
- * is made from these lines. A program that was written for one version may need
- * changes for a later one if the major number is another, or, as long as that is
- * 0, the minor number. */
+/* The version of library and host. All else that names it is made from these
+ * lines or compared with them. A program that was written for one version may
+ * need changes for a later one if the major number is another, or, as long as
+ * that is 0, the minor number. */
 #define ECO32_VERSION_MAJOR 0
 #define ECO32_VERSION_MINOR 2
 #define ECO32_VERSION_PATCH 0

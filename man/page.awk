@@ -4,8 +4,9 @@
 #   awk -v version=VERSION -f man/page.awk HELP man/eco32.1.in
 #
 # Of the help this is asked: "Usage:" begins it; an option stands behind some blanks, its text behind two more or in the lines below,
-# further in; a line before options that ends with a colon is their heading, an empty line before options ends a group; a paragraph that begins with "Exit status:" is about
-# that. All other paragraphs before the options describe the program, and those behind them belong to the options.
+# further in; a line before options that ends with a colon is their heading, an empty line before options ends a group; a paragraph that
+# begins with "Exit status:" is about that. All other paragraphs before the options describe the program, and those behind them belong
+# to the options.
 
 function plain(text) {
     gsub(/\\/, "\\e", text)

@@ -20,8 +20,9 @@ struct cell {
     uint8_t ram[BELT_RAM_LENGTH];
     uint8_t rom[BELT_ROM_LENGTH];
     uint8_t belt[ECO32_BELT_LENGTH];
-    uint32_t packs; /* on the belt */
-    uint64_t steps; /* made since reset */
+    uint32_t packs;   /* on the belt */
+    uint32_t stopped; /* how often the routine was stopped in what it may not do */
+    uint64_t steps;   /* made since reset */
 };
 
 struct count {
@@ -48,7 +49,6 @@ uint32_t tlb_low(const struct cell *c, int entry);
 const uint8_t *page(const struct cell *c, uint64_t number);
 struct count counted(const struct cell *c);
 int reports(const struct cell *c, uint32_t eid); /* the exception is a report of the routine */
-const char *fault_name(uint32_t eid);
 void tell_record(const struct cell *c);
 
 /* week.c: the week, a day at a time. */

@@ -5,8 +5,6 @@
 #include <stdio.h>
 #include <stdlib.h>
 
-#define TLB_AT 156 /* behind the kind byte 04 */
-
 void need(int holds, const char *says)
 {
     if (holds)
@@ -37,11 +35,11 @@ uint32_t word(const uint8_t *at)
 }
 
 /* Words of the machine record: see eco32.h. */
-uint32_t reg(const struct cell *c, int number) { return word(c->machine + 1 + 4 * number); }
-uint32_t pc(const struct cell *c) { return word(c->machine + 130); }
-uint32_t special(const struct cell *c, int number) { return word(c->machine + 135 + 4 * number); }
-uint32_t tlb_high(const struct cell *c, int entry) { return word(c->machine + TLB_AT + 8 * entry); }
-uint32_t tlb_low(const struct cell *c, int entry) { return word(c->machine + TLB_AT + 8 * entry + 4); }
+uint32_t reg(const struct cell *c, int number) { return word(c->machine + ECO32_RECORD_REGISTERS + 4 * number); }
+uint32_t pc(const struct cell *c) { return word(c->machine + ECO32_RECORD_PC); }
+uint32_t special(const struct cell *c, int number) { return word(c->machine + ECO32_RECORD_PSW + 4 * number); }
+uint32_t tlb_high(const struct cell *c, int entry) { return word(c->machine + ECO32_RECORD_TLB + 8 * entry); }
+uint32_t tlb_low(const struct cell *c, int entry) { return word(c->machine + ECO32_RECORD_TLB + 8 * entry + 4); }
 
 /* The frame behind a virtual page, as a part of the RAM that was lent. */
 const uint8_t *page(const struct cell *c, uint64_t number)
@@ -64,16 +62,6 @@ int reports(const struct cell *c, uint32_t eid)
     return eid == 20 && reg(c, 4) >= BELT_REPORT_MATCH && reg(c, 4) <= BELT_REPORT_DONE;
 }
 
-const char *fault_name(uint32_t eid)
-{
-    static const char *const names[] = {
-        "bus timeout", "illegal instruction", "privileged instruction", "division by zero", "trap",
-        "TLB miss", "TLB write", "TLB invalid", "illegal address", "privileged address",
-    };
-    need(eid >= 16 && eid <= 25, "no interrupt comes");
-    return names[eid - 16];
-}
-
 /* The machine record by its items; TLB entries that are blank are left out. */
 void tell_record(const struct cell *c)
 {
@@ -87,5 +75,5 @@ void tell_record(const struct cell *c)
     for (int n = 0; n < 32; n++)
         if (tlb_high(c, n) < 0xC0000000)
             printf("  04 TLB entry %2d %08" PRIX32 " %08" PRIX32 "\n", n, tlb_high(c, n), tlb_low(c, n));
-    printf("  05 replacement  %d\n", c->machine[413]);
+    printf("  05 replacement  %d\n", c->machine[ECO32_RECORD_REPLACEMENT]);
 }

@@ -10,21 +10,30 @@
 static const char usage[] =
     "usage: belt [--state] ROM RAM PACKS CELL     the week; CELL has the count of the cell\n"
     "       belt --twin [--state] ROM RAM PACKS   the hostile twin, attempt by attempt\n"
+    "       belt -h, belt --help                  this text\n"
     "--state also prints steps and the machine record. Exit status: 0 the counts are equal, or the\n"
     "twin reached nothing; 1 the counts differ; 2 usage; 3 an input is refused; 4 anything else failed.\n";
 
-/* Takes the options off the arguments; -1 if one is unknown. */
-static int options(int *argc, char ***argv, int *state, int *twin)
+struct options {
+    int help;
+    int state;
+    int twin;
+};
+
+/* Takes the options off the arguments. Answers the one that is unknown, or null. */
+static const char *take_options(int *argc, char ***argv, struct options *options)
 {
-    for (; *argc > 0 && strncmp(**argv, "--", 2) == 0; --*argc, ++*argv) {
-        if (strcmp(**argv, "--state") == 0)
-            *state = 1;
+    for (; *argc > 0 && (**argv)[0] == '-'; --*argc, ++*argv) {
+        if (strcmp(**argv, "-h") == 0 || strcmp(**argv, "--help") == 0)
+            options->help = 1;
+        else if (strcmp(**argv, "--state") == 0)
+            options->state = 1;
         else if (strcmp(**argv, "--twin") == 0)
-            *twin = 1;
+            options->twin = 1;
         else
-            return -1;
+            return **argv;
     }
-    return 0;
+    return NULL;
 }
 
 static int end(int status)
@@ -35,34 +44,42 @@ static int end(int status)
     return FAILED;
 }
 
+static int bad_usage(const char *unknown)
+{
+    if (unknown != NULL)
+        fprintf(stderr, "belt: unknown option %s\n", unknown);
+    fprintf(stderr, "%s", usage);
+    return BAD_USAGE;
+}
+
 int main(int argc, char **argv)
 {
     static struct cell c;
     struct count cell = {0, 0};
-    int state = 0, twin = 0;
+    struct options options = {0, 0, 0};
+    const char *unknown;
 
-    if (argc == 2 && strcmp(argv[1], "--help") == 0) {
+    argc--;
+    argv++;
+    unknown = take_options(&argc, &argv, &options);
+    if (options.help) {
         printf("%s", usage);
         return end(0);
     }
-    argc--;
-    argv++;
-    if (options(&argc, &argv, &state, &twin) != 0 || argc != (twin ? 3 : 4)) {
-        fprintf(stderr, "%s", usage);
-        return BAD_USAGE;
-    }
+    if (unknown != NULL || argc != (options.twin ? 3 : 4))
+        return bad_usage(unknown);
     /* All input is read before anything is run. */
     read_image(argv[0], c.rom, sizeof c.rom);
     read_image(argv[1], c.ram, sizeof c.ram);
     c.packs = read_packs(argv[2], c.belt);
-    if (twin) {
-        run_twin(&c, argv[0], state);
+    if (options.twin) {
+        run_twin(&c, argv[0], options.state);
         return end(0);
     }
     cell = read_count(argv[3]);
     monday(&c, argv[0], argv[1]);
     tuesday(&c);
     wednesday(&c);
-    thursday(&c, state);
+    thursday(&c, options.state);
     return end(friday(&c, cell) ? 0 : COUNTS_DIFFER);
 }

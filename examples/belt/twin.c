@@ -1,6 +1,8 @@
 /* The hostile twin of the barcode routine: each of its attempts ends in the fault that the manual names. */
 #include "belt.h"
 
+#include "eco32_text.h"
+
 #include <inttypes.h>
 #include <stdio.h>
 #include <string.h>
@@ -33,7 +35,7 @@ static void tell_attempt(const struct cell *c, struct seen *s, uint32_t eid)
         memcpy(s->count_before, count, sizeof s->count_before);
     need(s->faults < ATTEMPTS && tried->address == reg(c, 30), "the attempts come in their order");
     printf("%6" PRIu64 "  %-45s %2" PRIu32 " %-23s rejects %" PRIu32 "\n", c->steps, tried->what, eid,
-           fault_name(eid), word(count + BELT_REJECTS));
+           eco32_exception_name(eid), word(count + BELT_REJECTS));
     need(eid == tried->eid, "the fault is the one that the manual names");
     need(pc(c) == (eid == 21 ? 0xE0000008 : 0xE0000004), "its service routine starts");
     need(memcmp(count, s->count_before, sizeof s->count_before) == 0, "the count's frame is untouched");

@@ -1,6 +1,8 @@
 /* The week, a day at a time, in plain words. */
 #include "belt.h"
 
+#include "eco32_text.h"
+
 #include <inttypes.h>
 #include <stdio.h>
 #include <string.h>
@@ -128,11 +130,14 @@ static void tell_report(const struct cell *c, struct count *reported, int state)
     reported->rejected += report == BELT_REPORT_REJECT;
 }
 
+static const char *times(uint32_t count) { return count == 1 ? "time" : "times"; }
+
 /* Runs until the firmware stands at its last jump, which goes to itself. */
 static struct count run_packs(struct cell *c, int state)
 {
     struct count reported = {0, 0};
-    uint32_t eid, outcome, faults = 0, exceptions = 0;
+    uint32_t eid, outcome, exceptions = 0;
+    c->stopped = 0;
     while ((eid = run_on(c, MOST_STEPS_TO_REPORT)) != ECO32_NO_EXCEPTION) {
         need(exceptions++ < MOST_EXCEPTIONS, "the firmware comes to its end");
         if (reports(c, eid)) {
@@ -140,16 +145,16 @@ static struct count run_packs(struct cell *c, int state)
         } else {
             if (state)
                 printf("%6" PRIu64, c->steps);
-            printf("  the routine did what it may not do, and was stopped: %s (%" PRIu32 ")\n", fault_name(eid), eid);
-            faults++;
+            printf("  the routine tried what it may not do, and was stopped: %s (%" PRIu32 ")\n", eco32_exception_name(eid), eid);
+            c->stopped++;
         }
     }
     outcome = word(page(c, BELT_KERNEL_PAGE) + BELT_OUTCOME);
     need(outcome != 0, "the firmware comes to its end");
-    if (faults == 0)
+    if (c->stopped == 0)
         printf("  The routine did nothing that it may not do.\n");
     else
-        printf("  The routine was stopped %" PRIu32 " times. %s\n", faults,
+        printf("  The routine was stopped %" PRIu32 " %s. %s\n", c->stopped, times(c->stopped),
                outcome == BELT_OUTCOME_ENDED ? "Then the firmware ended it." : "Then it went on to its end.");
     return reported;
 }
@@ -161,10 +166,11 @@ void thursday(struct cell *c, int state)
     printf("\nThursday: the packs pass, and the routine looks up the code of each.\n%s", state ? "  step\n" : "");
     reported = run_packs(c, state);
     count = counted(c);
-    printf("  %" PRIu32 " packs were on the belt. The firmware counted %" PRIu32 ": %" PRIu32 " accepted, %" PRIu32
-           " rejected.\n", c->packs, count.packs, count.packs - count.rejected, count.rejected);
+    /* Checked first: a count that misses packs has no number of accepted ones. */
     need(count.packs == c->packs && reported.packs == c->packs, "every pack on the belt was counted");
     need(count.rejected == reported.rejected, "every rejected pack was counted");
+    printf("  %" PRIu32 " packs were on the belt. The firmware counted %" PRIu32 ": %" PRIu32 " accepted, %" PRIu32
+           " rejected.\n", c->packs, count.packs, count.packs - count.rejected, count.rejected);
     for (int n = 0; n < ENTRIES; n++)
         need(tlb_high(c, n) == tlb_high(&before, n) && tlb_low(c, n) == tlb_low(&before, n),
              "the table of pages is still Wednesday's");
@@ -179,7 +185,11 @@ int friday(const struct cell *c, struct count cell)
     int equal = model.packs == cell.packs && model.rejected == cell.rejected;
     printf("\nFriday: before release the model's count and the cell's count are read against each other.\n");
     printf("Release note: the model rejected %" PRIu32 " of %" PRIu32 " packs, the cell rejected %" PRIu32 " of %" PRIu32
-           " packs: %s.\n", model.rejected, model.packs, cell.rejected, cell.packs,
+           " packs: %s.", model.rejected, model.packs, cell.rejected, cell.packs,
            equal ? "equal" : "DIFFERENT, not for release");
+    /* Equal counts alone would hide a routine that tried to get at them. */
+    if (c->stopped != 0)
+        printf(" The sealed routine was stopped %" PRIu32 " %s: it tried what it may not do.", c->stopped, times(c->stopped));
+    printf("\n");
     return equal;
 }

@@ -13,7 +13,7 @@ use Rattle.memory.proofs.OwnBytes.{SameLengths}
 use Rattle.memory.proofs.StoreLaws.{store-lengths}
 use Rattle.processor.proofs.FitLaws.{Fit, fit-means, means-fit}
 use Rattle.instructions.specs.Action.{Action, Write, Store, System, Exception}
-use Rattle.actions.specs.Actions.{storeWidth}
+use Rattle.memory.specs.Access.{storeWidth}
 use Rattle.machine.specs.Machine.{Machine, Bytes, Representable}
 use Rattle.machine.proofs.Representing.{representable}
 use Rattle.step.specs.Step.{look, memoryDone, stepOf}

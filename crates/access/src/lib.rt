@@ -12,7 +12,7 @@ ghost use Rattle.instructions.specs.Operands.{around};
 ghost use Rattle.access.specs.Reads.{answered, readFrom};
 ghost use Rattle.translation.specs.Translation.{bytesOf};
 ghost use Rattle.access.specs.Writes.{storeTo};
-ghost use Rattle.instructions.specs.Action.{actionOf};
+ghost use Rattle.instructions.specs.Code.{actionOf};
 
 // What a read through the translation brings: a value, or a fault's identifier.
 pub enum Read {

@@ -1,7 +1,5 @@
 -- Actions that are more than one method of the processor (manual, 3.5 and 3.6).
-use mathlib.Core.Bool.{cond}
 use Prim.Native.Nat.{ℕ}
-use lib.Dec.{eqb}
 use Rattle.sums.specs.Sums.{sum}
 use Rattle.processor.specs.declared.Processor.{Processor}
 use Rattle.instructions.specs.Action.{Action, Write, Store, System, Exception, SystemInstruction, Rfx, Mvfs, Mvts, Tbs, Tbwr, Tbri, Tbwi}
@@ -29,7 +27,3 @@ processorAfter p (Write n v next) = written p n v next
 processorAfter p (Store width physical v) = onward p
 processorAfter p (System i) = systemDone i p
 processorAfter p (Exception eid address) = entered p eid address
-
--- the width of a store: no action has another than 1, 2 and 4
-unfoldable pub storeWidth : ℕ → ℕ
-storeWidth width = cond (eqb width 1) 1 (cond (eqb width 2) 2 4)

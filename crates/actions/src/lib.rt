@@ -1,15 +1,13 @@
-// What the actions of a step change: registers, memory, special registers and the TLB (manual, 3.5 and 3.6).
+// What the actions of a step change of the processor: registers, special registers and the TLB (manual, 3.6).
 use instructions::Coded;
 use processor::Processor;
 ghost use mathlib.Core.Path.{_≡_};
-ghost use Rattle.memory.specs.Lent.{lent, left};
 ghost use Rattle.processor.specs.Register.{special, written};
 ghost use Rattle.processor.specs.Tlb.{entryRead, searched};
 ghost use Prim.Native.Nat.{_%_};
 ghost use lib.ListN.{getD};
-ghost use Rattle.memory.specs.Access.{memoryAfter};
-ghost use Rattle.instructions.specs.Action.{actionOf};
-ghost use Rattle.actions.specs.Actions.{processorAfter, storeWidth};
+ghost use Rattle.instructions.specs.Code.{actionOf};
+ghost use Rattle.actions.specs.Actions.{processorAfter};
 
 // A number above 4 reads 0.
 pub fn special(p: Processor, number: u32) -> u32
@@ -66,18 +64,6 @@ pub fn write(p: Processor, number: u32, value: u32, next: u32) -> Change
         value: registers[i],
         pc: after.pc,
     }
-}
-
-// The look has found that something answers.
-pub fn store(ram: &mut [u8], rom: &[u8], belt: &mut [u8], width: u32, physical: u32, value: u32)
-    ensures { λ r. ⌜ left ram rom belt ≡ memoryAfter (storeWidth width) (lent ram rom belt) physical value ⌝ }
-{
-    match width {
-        1 => load_store::store_byte(ram, rom, belt, physical, value),
-        2 => load_store::store_half(ram, rom, belt, physical, value),
-        _ => load_store::store_word(ram, rom, belt, physical, value),
-    }
-    ;
 }
 
 // What an action makes of the processor.

@@ -7,7 +7,8 @@ ghost use Prim.Native.Nat.{_≤_};
 ghost use lib.ListN.{getD};
 ghost use Rattle.instructions.specs.Operands.{operands, illegal};
 ghost use Rattle.compute.specs.Compute.{computations, unlessZero};
-ghost use Rattle.instructions.specs.Action.{Write, actionOf};
+ghost use Rattle.instructions.specs.Action.{Write};
+ghost use Rattle.instructions.specs.Code.{actionOf};
 
 // Opcodes 10 to 1F. x and y are the registers of bits 25..21 and 20..16.
 pub fn logic(opcode: u32, x: u32, y: u32, word: u32, next: u32) -> Coded

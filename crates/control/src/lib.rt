@@ -8,7 +8,7 @@ ghost use Rattle.control.specs.Branches.{target, branch};
 ghost use lib.ListN.{getD};
 ghost use Rattle.instructions.specs.Operands.{operands, illegal};
 ghost use Rattle.control.specs.Control.{controls};
-ghost use Rattle.instructions.specs.Action.{actionOf};
+ghost use Rattle.instructions.specs.Code.{actionOf};
 
 fn target_16(word: u32, next: u32) -> u32
     ensures { λ r. ⌜ r ≡ target 16 word next ⌝ }

@@ -5,7 +5,7 @@ use processor::Words;
 ghost use mathlib.Core.Path.{_≡_};
 ghost use Rattle.instructions.specs.Operands.{operandsIn, around};
 ghost use Rattle.decode.specs.Table.{executed};
-ghost use Rattle.instructions.specs.Action.{actionOf};
+ghost use Rattle.instructions.specs.Code.{actionOf};
 
 // The action of an instruction word, by its opcode; next is the PC after the fetch.
 pub fn execute<'a>(

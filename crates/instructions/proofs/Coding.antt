@@ -7,7 +7,8 @@ use native.Mathlib.Omega.{arith}
 use types.Run.{OneOf}
 use denote.Enum.Declared.{tagOf}
 use Rattle.instructions.proofs.Coded as T
-use Rattle.instructions.specs.Action.{SystemInstruction, Rfx, Mvfs, Mvts, Tbs, Tbwr, Tbri, Tbwi, System, actionOf}
+use Rattle.instructions.specs.Action.{SystemInstruction, Rfx, Mvfs, Mvts, Tbs, Tbwr, Tbri, Tbwi, System}
+use Rattle.instructions.specs.Code.{actionOf}
 use Rattle.instructions.specs.declared.Coded.{Coded}
 use Rattle.instructions.specs.declared.Coded.the-variants as coded
 

@@ -91,8 +91,8 @@ steps-by Exported q m r = exported-steps q m r
 module _ (c : Call) (m : Machine) (r : Representable m) where
   pub outcome-is : callOutcome c m ≡ runOf (c .request) m
   unfolding callOutcome
-  outcome-is = outcome-by (c .entry) (c .request) m r
+  outcome-is = outcome-by (c .point) (c .request) m r
 
   pub trace-is : callTrace c m ≡ madeWith (c .request .lines) (stepsOf (c .request) m)
   unfolding callTrace
-  trace-is = ap (madeWith (c .request .lines)) (steps-by (c .entry) (c .request) m r)
+  trace-is = ap (madeWith (c .request .lines)) (steps-by (c .point) (c .request) m r)

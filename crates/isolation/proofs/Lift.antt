@@ -11,7 +11,7 @@ use Rattle.status.specs.Psw.{userMode}
 use Rattle.processor.specs.declared.Processor.{Processor}
 use Rattle.instructions.specs.Action.{Action, Write, Store, System, Exception}
 use Rattle.machine.specs.Machine.{Machine, Representable}
-use Rattle.actions.specs.Actions.{storeWidth}
+use Rattle.memory.specs.Access.{storeWidth}
 use Rattle.step.specs.Step.{look, memoryDone, Stepped, stepOf}
 use Rattle.refusals.specs.Refusal.{runTests, runRefusal}
 use Rattle.refusals.proofs.FirstFailed.{all-pass}

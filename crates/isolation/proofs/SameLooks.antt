@@ -53,7 +53,7 @@ module _ (p : Processor) (width blocks : ℕ) (store : Bool) (address physical :
       ∙ aligned-in-frame width blocks (frameOf (lowWord p (pageOf address))) address divides (g .aligned)
 
   granted-page : ValidUserPage p (pageOf address) (frameAt physical)
-  granted-page = record { user = g .below; entry = g .entry; allowed = g .allowed; names = sym granted-frame }
+  granted-page = record { user = g .below; found = g .found; allowed = g .allowed; names = sym granted-frame }
 
   each-frame : (i : ℕ) → i < width → frameAt (physical + i) ≡ frameAt physical
   each-frame i h = one-frame width blocks physical i divides physical-aligned h

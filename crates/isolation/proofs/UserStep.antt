@@ -6,7 +6,7 @@ use Prim.Native.Nat.{ℕ, _<_}
 use lib.Dec.{ltb}
 use lib.ListN.{getD}
 use Rattle.memory.specs.Map.{Memory}
-use Rattle.memory.specs.Access.{memoryAfter}
+use Rattle.memory.specs.Access.{storeWidth, memoryAfter}
 use Rattle.memory.proofs.OwnBytes.{Apart}
 use Rattle.memory.proofs.StoreLaws.{store-lengths, store-rom, store-keeps}
 use Rattle.status.specs.Psw.{pushed}
@@ -25,12 +25,13 @@ use Rattle.access.specs.declared.Read.{Read}
 use Rattle.access.specs.declared.Read.the-variants.{Value, Fault}
 use Rattle.machine.specs.Machine.{Machine}
 use Rattle.look.specs.Look.{operandsOf, decoded, lookFrom}
-use Rattle.actions.specs.Actions.{processorAfter, storeWidth}
+use Rattle.actions.specs.Actions.{processorAfter}
 use Rattle.step.specs.Step.{surroundingsOf, look, memoryDone, done, stepOf, eidOf}
 use Rattle.isolation.specs.Frames.{frameAt, lowWord, ValidUserPage, Reached, ReachedWritable, SameIn}
 use Rattle.isolation.specs.Trace.{inUserMode}
 use Rattle.isolation.specs.Claim.{Specials, Left, Held, Alike}
-use Rattle.isolation.proofs.UserActions.{GrantedStore, UserAction, executed-user}
+use Rattle.decode.proofs.Outcomes.{Granted}
+use Rattle.isolation.proofs.UserActions.{UserAction, executed-user}
 use Rattle.isolation.proofs.SameLooks.{byte-writable, look-same}
 use Rattle.isolation.proofs.SameStores.{store-same}
 
@@ -74,7 +75,7 @@ module _ (p q : Processor) (high : p .tlbhigh ≡ q .tlbhigh) (low : p .tlblow �
   page-by-tlb page frame v =
       record {
         user = v .user;
-        entry = subst (λ (h : List ℕ). lookup h page < 32) high (v .entry);
+        found = subst (λ (h : List ℕ). lookup h page < 32) high (v .found);
         allowed = ap valid (same-low page) ∙ v .allowed;
         names = ap frameOf (same-low page) ∙ v .names;
       }
@@ -87,7 +88,7 @@ module _ (p q : Processor) (high : p .tlbhigh ≡ q .tlbhigh) (low : p .tlblow �
 
 module _ (start m : Machine) (held : Held start m) (user : inUserMode m ≡ true) (lines : ℕ) where
   -- a granted store keeps every frame that is not reached writable
-  stored : (width physical v : ℕ) → GrantedStore (surroundingsOf m) width physical
+  stored : (width physical v : ℕ) → Granted (surroundingsOf m) width physical
       → SameIn (λ frame. ReachedWritable (start .processor) frame → ⊥) (memoryAfter (storeWidth width) (m .memory) physical v) (start .memory)
   stored width physical v g =
       let l = store-lengths width (m .memory) physical v in

@@ -19,7 +19,7 @@ lowWord p page = getD (p .tlblow) (lookup (p .tlbhigh) page) 0
 -- a page below 80000 whose entry by the lookup is valid and names a frame
 pub record ValidUserPage (p : Processor) (page frame : ℕ) : Type 0 where
   pub user : page < 0x80000
-  pub entry : lookup (p .tlbhigh) page < noEntry
+  pub found : lookup (p .tlbhigh) page < noEntry
   pub allowed : valid (lowWord p page) ≡ true
   pub names : frameOf (lowWord p page) ≡ frame
 

@@ -21,7 +21,7 @@ pub data EntryPoint : Type 0 where
 
 -- a run of the list: its entry point, and what it is asked
 pub record Call : Type 0 where
-  pub entry : EntryPoint
+  pub point : EntryPoint
   pub request : Request
 
 -- ---- one run
@@ -40,7 +40,7 @@ stepsBy ByValue q m = stepsOf q m
 stepsBy Exported q m = callSteps q (recordOf (m .processor)) (m .memory)
 
 unfoldable pub callOutcome : Call → Machine → Outcome
-callOutcome c m = outcomeBy (c .entry) (c .request) m
+callOutcome c m = outcomeBy (c .point) (c .request) m
 
 -- a step of a list: the lines of its run, and the machine after it
 pub record Made : Type 0 where
@@ -52,7 +52,7 @@ madeWith lines [] = []
 madeWith lines (s ∷ ss) = record { lines = lines; machine = s .machine } ∷ madeWith lines ss
 
 unfoldable pub callTrace : Call → Machine → List Made
-callTrace c m = madeWith (c .request .lines) (stepsBy (c .entry) (c .request) m)
+callTrace c m = madeWith (c .request .lines) (stepsBy (c .point) (c .request) m)
 
 -- ---- the list: each run takes the machine that the one before it returned and the bytes that it left
 

@@ -1,10 +1,13 @@
-// The load and the store of one, two or four bytes at a physical address.
+// The loads of one, two and four bytes at a physical address, and the store over the width.
 use memory::Loaded;
 use memory::Place;
 use memory::Stored;
 ghost use mathlib.Core.Path.{_≡_};
 ghost use Rattle.memory.specs.Lent.{lent, left};
-ghost use Rattle.memory.specs.Access.{loadOf, storeAnswer, memoryAfter};
+ghost use Prim.Native.Nat.{_+_, _≤_};
+ghost use lib.ListN.{length};
+ghost use Rattle.endian.specs.BigEndian.{writeAt};
+ghost use Rattle.memory.specs.Access.{loadOf, storeAnswer, storeWidth, memoryAfter};
 
 pub fn load_byte(ram: &[u8], rom: &[u8], belt: &[u8], address: u32) -> Loaded
     ensures { λ r. ⌜ r ≡ loadOf 1 (lent ram rom belt) address ⌝ }
@@ -15,22 +18,6 @@ pub fn load_byte(ram: &[u8], rom: &[u8], belt: &[u8], address: u32) -> Loaded
         Place::Rom(at) => Loaded::Value(endian::read_byte(rom, at as usize)),
         Place::Belt(_) => Loaded::Timeout,
         Place::Nothing => Loaded::Timeout,
-    }
-}
-
-pub fn store_byte(ram: &mut [u8], rom: &[u8], belt: &mut [u8], address: u32, value: u32) -> Stored
-    ensures answer { λ r. ⌜ r ≡ storeAnswer 1 (lent ram rom belt) address ⌝ }
-    ensures contents { λ r. ⌜ left ram rom belt ≡ memoryAfter 1 (lent ram rom belt) address value ⌝ }
-{
-    let place = memory::place_of(1, ram.len(), rom.len(), belt.len(), address);
-    match place {
-        Place::Ram(at) => {
-            endian::write_byte(ram, at as usize, value);
-            Stored::Done
-        }
-        Place::Rom(_) => Stored::Done,
-        Place::Belt(_) => Stored::Timeout,
-        Place::Nothing => Stored::Timeout,
     }
 }
 
@@ -46,22 +33,6 @@ pub fn load_half(ram: &[u8], rom: &[u8], belt: &[u8], address: u32) -> Loaded
     }
 }
 
-pub fn store_half(ram: &mut [u8], rom: &[u8], belt: &mut [u8], address: u32, value: u32) -> Stored
-    ensures answer { λ r. ⌜ r ≡ storeAnswer 2 (lent ram rom belt) address ⌝ }
-    ensures contents { λ r. ⌜ left ram rom belt ≡ memoryAfter 2 (lent ram rom belt) address value ⌝ }
-{
-    let place = memory::place_of(2, ram.len(), rom.len(), belt.len(), address);
-    match place {
-        Place::Ram(at) => {
-            endian::write_half(ram, at as usize, value);
-            Stored::Done
-        }
-        Place::Rom(_) => Stored::Done,
-        Place::Belt(_) => Stored::Timeout,
-        Place::Nothing => Stored::Timeout,
-    }
-}
-
 pub fn load_word(ram: &[u8], rom: &[u8], belt: &[u8], address: u32) -> Loaded
     ensures { λ r. ⌜ r ≡ loadOf 4 (lent ram rom belt) address ⌝ }
 {
@@ -74,19 +45,48 @@ pub fn load_word(ram: &[u8], rom: &[u8], belt: &[u8], address: u32) -> Loaded
     }
 }
 
-pub fn store_word(ram: &mut [u8], rom: &[u8], belt: &mut [u8], address: u32, value: u32) -> Stored
-    ensures answer { λ r. ⌜ r ≡ storeAnswer 4 (lent ram rom belt) address ⌝ }
-    ensures contents { λ r. ⌜ left ram rom belt ≡ memoryAfter 4 (lent ram rom belt) address value ⌝ }
+fn bytes_of(width: u32) -> u32
+    ensures { λ r. ⌜ r ≡ storeWidth width ⌝ }
 {
-    let place = memory::place_of(4, ram.len(), rom.len(), belt.len(), address);
+    match width {
+        1 => 1,
+        2 => 2,
+        _ => 4,
+    }
+}
+
+// The low bytes of a number into a slice, as many as the width says.
+fn write(s: &mut [u8], at: usize, width: u32, value: u32)
+    requires { ⌜ at + storeWidth width ≤ length (now s) ⌝ }
+    ensures { λ r. ⌜ now (s .exit) ≡ writeAt (storeWidth width) (now (s .entry)) at value ⌝ }
+{
+    match width {
+        1 => endian::write_byte(s, at, value),
+        2 => endian::write_half(s, at, value),
+        _ => endian::write_word(s, at, value),
+    }
+}
+
+pub fn store(
+    ram: &mut [u8],
+    rom: &[u8],
+    belt: &mut [u8],
+    width: u32,
+    address: u32,
+    value: u32,
+) -> Stored
+    ensures answer { λ r. ⌜ r ≡ storeAnswer (storeWidth width) (lent ram rom belt) address ⌝ }
+    ensures contents { λ r. ⌜ left ram rom belt ≡ memoryAfter (storeWidth width) (lent ram rom belt) address value ⌝ }
+{
+    let place = memory::place_of(bytes_of(width), ram.len(), rom.len(), belt.len(), address);
     match place {
         Place::Ram(at) => {
-            endian::write_word(ram, at as usize, value);
+            write(ram, at as usize, width, value);
             Stored::Done
         }
         Place::Rom(_) => Stored::Done,
         Place::Belt(at) => {
-            endian::write_word(belt, at as usize, value);
+            write(belt, at as usize, width, value);
             Stored::Done
         }
         Place::Nothing => Stored::Timeout,

@@ -8,7 +8,7 @@ ghost use Rattle.look.specs.Interrupt.{lowest, channel};
 ghost use Rattle.tlb.specs.Found.{Serves};
 ghost use Rattle.instructions.specs.Operands.{around};
 ghost use Rattle.look.specs.Look.{lookFrom};
-ghost use Rattle.instructions.specs.Action.{actionOf};
+ghost use Rattle.instructions.specs.Code.{actionOf};
 
 // The number of the lowest bit that is set of 16, or 32.
 fn lowest_ready(ready: u32) -> u32

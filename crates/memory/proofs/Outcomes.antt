@@ -112,11 +112,5 @@ module _ (w : ℕ) (ram rom belt : List ℕ) (a : ℕ) where
       (sym (answer-at w (memory ram rom belt) a Nothing e), sym (stored-at w (memory ram rom belt) a Nothing v e))
 
   -- a byte or a half-word never has its place in the belt registers
-  never-belt : {P : Type 0} → (w ≡ 4 → ⊥) → (at : ℕ) → At (Belt at) → P
-  never-belt n at e = absurd (belt-answers-words w (length ram) (length rom) (length belt) a n at e)
-
   pub loads-no-belt : (w ≡ 4 → ⊥) → (at : ℕ) → At (Belt at) → Loads loaded.Timeout
-  loads-no-belt n at e = never-belt n at e
-
-  pub stores-no-belt : (v : ℕ) → (w ≡ 4 → ⊥) → (at : ℕ) → At (Belt at) → Stores v stored.Timeout ram belt
-  stores-no-belt v n at e = never-belt n at e
+  loads-no-belt n at e = absurd (belt-answers-words w (length ram) (length rom) (length belt) a n at e)

@@ -1,5 +1,7 @@
 -- Loads and stores of w bytes at a physical address (document 01, "One step" and "Closed by us"; manual, 3.5).
+use mathlib.Core.Bool.{cond}
 use Prim.Native.Nat.{ℕ}
+use lib.Dec.{eqb}
 use Rattle.words.specs.Identifiers.{busTimeout, noException}
 use Rattle.endian.specs.BigEndian.{readAt, writeAt}
 use Rattle.memory.specs.Map.{Memory, memory, placeIn}
@@ -38,6 +40,10 @@ writeIn w m (Ram at) v = memory (writeAt w (m .ram) at v) (m .rom) (m .belt)
 writeIn w m (Rom at) v = m
 writeIn w m (Belt at) v = memory (m .ram) (m .rom) (writeAt w (m .belt) at v)
 writeIn w m Nothing v = m
+
+-- the width of a store: no action has another than 1, 2 and 4
+unfoldable pub storeWidth : ℕ → ℕ
+storeWidth width = cond (eqb width 1) 1 (cond (eqb width 2) 2 4)
 
 -- the memory after a store: the low w bytes of v are there; ROM never changes
 unfoldable pub memoryAfter : ℕ → Memory → ℕ → ℕ → Memory

@@ -124,7 +124,6 @@ pub fn part(
     while i < s.len() / 8 {
         let word = endian::read_word(s, i * 8);
         let b = endian::read_word(s, i * 8 + 4);
-        i += 1;
         progress = command(
             progress,
             xrecord,
@@ -140,6 +139,7 @@ pub fn part(
             word % 0x100_0000,
             b,
         );
+        i += 1;
     }
     let counts = progress.counts;
     progress.counting(counts.judge(false, s.len() % 8 == 0))

@@ -60,7 +60,8 @@ pub fn advance(
                 }
             }
             Coded::Store(width, physical, v) => {
-                actions::store(ram, rom, belt, width, physical, v);
+                // The look has found that something answers.
+                load_store::store(ram, rom, belt, width, physical, v);
                 state = state.jump(sums::add(state.pc, 4));
             }
             Coded::Rfx(_, _, _)

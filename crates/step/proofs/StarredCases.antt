@@ -10,7 +10,7 @@ use Rattle.shifts.specs.Shifts.{shiftArithmetic}
 use Rattle.comparison.specs.Comparison.{signedHolds, unsignedHolds}
 use Rattle.endian.specs.BigEndian.{readAt, writeAt}
 use Rattle.memory.specs.Map.{within, locate, placeOf}
-use Rattle.memory.specs.Access.{loadOf, storeAnswer, memoryAfter}
+use Rattle.memory.specs.Access.{loadOf, storeAnswer, storeWidth, memoryAfter}
 use Rattle.processor.specs.declared.Processor.{Processor}
 use Rattle.kept_bits.specs.Kept.{keptPsw, keptHigh}
 use Rattle.processor.specs.State.{atReset, withPc, withSpecials, withTlb}
@@ -32,7 +32,7 @@ use Rattle.system.specs.System.{privileged, traps, systems}
 use Rattle.decode.specs.Table.{meanings, executed}
 use Rattle.machine.specs.Machine.{Machine, machine}
 use Rattle.look.specs.Look.{lookFrom}
-use Rattle.actions.specs.Actions.{systemDone, storeWidth}
+use Rattle.actions.specs.Actions.{systemDone}
 use Rattle.step.specs.Step.{Stepped, look, stepOf}
 
 -- ---- the machines of the cases

@@ -8,7 +8,7 @@ use lib.ListN.{length, getD, List·getD-eq-default}
 use Rattle.sums.specs.Sums.{sum}
 use Rattle.words.proofs.Cases.{chosen, below-or-not}
 use Rattle.sums.proofs.Sizes.{sum-lt}
-use Rattle.memory.specs.Access.{memoryAfter}
+use Rattle.memory.specs.Access.{storeWidth, memoryAfter}
 use Rattle.memory.proofs.Bytewise.{Bytewise, store-bytewise}
 use Rattle.processor.specs.declared.Processor.{Processor}
 use Rattle.processor.specs.Register.{special}
@@ -23,7 +23,7 @@ use Rattle.decode.proofs.Small.{Small, SmallSystem}
 use Rattle.decode.proofs.Outcomes.{executed-small}
 use Rattle.machine.specs.Machine.{Machine, Bytes, Representable}
 use Rattle.look.specs.Look.{operandsOf, decoded, lookFrom}
-use Rattle.actions.specs.Actions.{onward, systemDone, storeWidth}
+use Rattle.actions.specs.Actions.{onward, systemDone}
 use Rattle.step.specs.Step.{surroundingsOf, look, done, stepOf}
 use Rattle.step.proofs.RepresentableKept.{having, memory-kept, special-lt, entered-representable, returned-representable, written-representable}
 use Rattle.step.proofs.RepresentableKept.{jumped-representable, special-representable, indexed-representable}

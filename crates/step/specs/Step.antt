@@ -1,12 +1,12 @@
 -- One step (document 01, "One step"; manual, 3.2): a look, which changes nothing and names an action, and then the action.
 use Prim.Native.Nat.{ℕ}
 use Rattle.memory.specs.Map.{Memory}
-use Rattle.memory.specs.Access.{memoryAfter}
+use Rattle.memory.specs.Access.{storeWidth, memoryAfter}
 use Rattle.words.specs.Identifiers.{noException}
 use Rattle.instructions.specs.Operands.{Surroundings, surroundings}
 use Rattle.instructions.specs.Action.{Action, Write, Store, System, Exception}
 use Rattle.look.specs.Look.{lookFrom}
-use Rattle.actions.specs.Actions.{processorAfter, storeWidth}
+use Rattle.actions.specs.Actions.{processorAfter}
 use Rattle.machine.specs.Machine.{Machine}
 
 -- ---- the look

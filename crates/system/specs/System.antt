@@ -20,28 +20,35 @@ numberZ word = word % 2 ^ 16
 abbrev pub SystemMeaning : Type 0
 SystemMeaning = ℕ → ℕ → ℕ → Action
 
--- 3.6.1 to 3.6.8
+-- 3.6.1
 abbrev pub TRAP : SystemMeaning
 TRAP psw y word = fault trap
 
+-- 3.6.2
 abbrev pub RFX : SystemMeaning
 RFX psw y word = privileged psw (System Rfx)
 
+-- 3.6.3
 abbrev pub MVFS : SystemMeaning
 MVFS psw y word = privileged psw (System (Mvfs (numberZ word) (fieldY word)))
 
+-- 3.6.4
 abbrev pub MVTS : SystemMeaning
 MVTS psw y word = privileged psw (System (Mvts (numberZ word) y))
 
+-- 3.6.5
 abbrev pub TBS : SystemMeaning
 TBS psw y word = privileged psw (System Tbs)
 
+-- 3.6.6
 abbrev pub TBWR : SystemMeaning
 TBWR psw y word = privileged psw (System Tbwr)
 
+-- 3.6.7
 abbrev pub TBRI : SystemMeaning
 TBRI psw y word = privileged psw (System Tbri)
 
+-- 3.6.8
 abbrev pub TBWI : SystemMeaning
 TBWI psw y word = privileged psw (System Tbwi)
 

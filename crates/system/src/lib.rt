@@ -5,7 +5,7 @@ ghost use mathlib.Core.Path.{_≡_};
 ghost use lib.ListN.{getD};
 ghost use Rattle.system.specs.System.{privileged, traps, systems};
 ghost use Rattle.system.specs.Code.{illegalSystem};
-ghost use Rattle.instructions.specs.Action.{actionOf};
+ghost use Rattle.instructions.specs.Code.{actionOf};
 
 // In User Mode a privileged instruction faults.
 fn privileged(psw: u32, action: Coded) -> Coded

@@ -24,19 +24,23 @@ landed extend number address next (Fault eid) = Exception eid address
 unfoldable pub load : ℕ → (ℕ → ℕ) → Meaning
 load width extend s o = landed extend (fieldY (o .word)) (addressOf o) (o .next) (readFrom width s (addressOf o))
 
--- 3.5.1 to 3.5.5
+-- 3.5.1
 abbrev pub LDW : Meaning
 LDW = load 4 (λ v. v)
 
+-- 3.5.2
 abbrev pub LDH : Meaning
 LDH = load 2 (signExtend 16)
 
+-- 3.5.3
 abbrev pub LDHU : Meaning
 LDHU = load 2 (zeroExtend 16)
 
+-- 3.5.4
 abbrev pub LDB : Meaning
 LDB = load 1 (signExtend 8)
 
+-- 3.5.5
 abbrev pub LDBU : Meaning
 LDBU = load 1 (zeroExtend 8)
 
@@ -45,13 +49,15 @@ LDBU = load 1 (zeroExtend 8)
 abbrev pub store : ℕ → Meaning
 store width s o = storeTo width s (o .y) (addressOf o)
 
--- 3.5.6 to 3.5.8
+-- 3.5.6
 abbrev pub STW : Meaning
 STW = store 4
 
+-- 3.5.7
 abbrev pub STH : Meaning
 STH = store 2
 
+-- 3.5.8
 abbrev pub STB : Meaning
 STB = store 1
 

@@ -11,7 +11,7 @@ ghost use Rattle.instructions.specs.Operands.{operands, simple, illegal, around
 ghost use Rattle.words.specs.Numbers.{zeroExtend};
 ghost use Rattle.transfer.specs.Transfer.{landed, transfers};
 ghost use Rattle.transfer.specs.Code.{extensions};
-ghost use Rattle.instructions.specs.Action.{actionOf};
+ghost use Rattle.instructions.specs.Code.{actionOf};
 
 // A loaded value extended, by the opcode counted from LDW: LDW, LDH, LDHU, LDB, LDBU.
 fn extend(kind: u32, v: u32) -> u32

@@ -20,7 +20,7 @@ use Rattle.translation.specs.declared.Translation.the-variants.{Physical
 pub record Granted (highs lows : List ℕ) (width : ℕ) (store : Bool) (address physical : ℕ) : Type 0 where
   pub aligned : address % width ≡ 0
   pub below : pageOf address < 0x80000
-  pub entry : lookup highs (pageOf address) < 32
+  pub found : lookup highs (pageOf address) < 32
   pub allowed : valid (getD lows (lookup highs (pageOf address)) 0) ≡ true
   pub may-write : store ≡ true → writable (getD lows (lookup highs (pageOf address)) 0) ≡ true
   pub place : physical ≡ frameOf (getD lows (lookup highs (pageOf address)) 0) * 4096 + address % 4096
@@ -50,7 +50,7 @@ module _ (psw : ℕ) (highs lows : List ℕ) (width : ℕ) (store : Bool) (addre
       record {
         aligned = eqb-true (address % width) 0 (not-false (eqb (address % width) 0) straight);
         below = omega arith;
-        entry = ltb-true _ _ found;
+        found = ltb-true _ _ found;
         allowed = not-false (valid low) ok;
         may-write = λ s. not-false (writable low) (second-fails store (not (writable low)) may s);
         place = cc;

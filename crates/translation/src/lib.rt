@@ -62,7 +62,7 @@ fn through(low: u32, store: bool, address: u32) -> Translation
 }
 
 // By the index of the page's entry, or 32.
-pub fn entry(lows: &Words, i: usize, store: bool, address: u32) -> Translation
+pub fn by_entry(lows: &Words, i: usize, store: bool, address: u32) -> Translation
     ensures { λ r. ⌜ r ≡ cond (ltb i noEntry) (through (getD (now (lows .entry)) i 0) store address) TlbMiss ⌝ }
 {
     if i < 32 {
@@ -93,7 +93,7 @@ pub fn translate_at<'a>(
     if 0xC000_0000 <= address {
         return Translation::Physical(address - 0xC000_0000);
     }
-    entry(lows, i, store, address)
+    by_entry(lows, i, store, address)
 }
 
 pub fn translate<'a>(

@@ -8,7 +8,7 @@ use Rattle.machine.specs.Machine.{machine}
 use Rattle.step.proofs.Looks.{joined}
 use Rattle.run_loop.proofs.Loop.{plain-goes-on, none-goes-on, run-end, run-start, one-less}
 use Rattle.run_loop.proofs.Turn.{zero-written, taken, jump-found, enter-found, followed-serves, Going, again, stops}
-use Rattle.instructions.specs.Action.{actionOf}
+use Rattle.instructions.specs.Code.{actionOf}
 use Rattle.instructions.proofs.Coding.{is-system}
 use Rattle.actions.specs.Actions.{processorAfter}
 use Rattle.run_loop.specs.Run.{request}
@@ -82,7 +82,7 @@ loop-again-3 c =
     let at-loop-test = at-follow .before .before .before in
     let at-loop = at-loop-test .before in
     again (at-loop .loop .inv) (at-loop-test .loop-test .taken) (at-look-at .look-at .ensures) (ap actionOf (at-action2 .action2 .given .1))
-    (joined (c .jump2 .ensures ∙ ap (jumped _) (c .before .add .ensures)) (at-store .store .ensures)) (none-goes-on _) (at-store .store .kept .0)
+    (joined (c .jump2 .ensures ∙ ap (jumped _) (c .before .add .ensures)) (at-store .store .ensures .1)) (none-goes-on _) (at-store .store .kept .0)
     (at-store .store .kept .1 .1 .0) (jump-found _ _ _ (at-follow .follow .ensures .1) _ _ (c .jump2 .ensures))
 
 loop-less-4 : tie.Need-loop-less-4 Inv-loop μ-loop

@@ -36,7 +36,7 @@ returns-4 c =
     let start = tested .before in
     let aligned = sym (start .before .is-misaligned .ensures) ∙ start .if1 .left in
     let allowed = sym (tested .is-forbidden .ensures) ∙ at-if2 .if2 .left in
-    simp (aligned, allowed, lt-leb _ _ (c .before .if3 .left), sym (start .before .before .pre (c .before .if3 .left)), c .entry .ensures)
+    simp (aligned, allowed, lt-leb _ _ (c .before .if3 .left), sym (start .before .before .pre (c .before .if3 .left)), c .by-entry .ensures)
 
 pub translate-at-spec : {M : Type 1} → statement M
 translate-at-spec = tie.close (tie.spec (λ c κs. search needs) returns (λ c κs. search needs) returns-2 returns-3 (λ c κs. search needs) returns-4)

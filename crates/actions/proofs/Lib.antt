@@ -1,2 +1,0 @@
--- The laws of `actions`.
-pub mod Widths

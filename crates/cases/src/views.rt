@@ -1,0 +1,39 @@
+// Page views: their refusals, and the order of the checks.
+use crate::runs;
+use crate::text;
+use libc::STDOUT_FILENO;
+use processor::Processor;
+ghost use Prim.Native.Nat.{_≤_};
+
+// A page view from RAM of the given length. The replacement index is the reset machine's, 4, or 3, which is not fit.
+pub fn print_view(name: &[u8], replacement: u32, ram: usize, page: u64)
+    requires { ⌜ ram ≤ 8192 ⌝ }
+{
+    let bytes = [runs::FILL; 8192];
+    let mut p = Processor::reset();
+    p.replacement = replacement;
+    let found = page_view::locate(&bytes[..ram], p, page);
+    text::print(name);
+    text::print(b", page ");
+    io::print_hex(STDOUT_FILENO, page, 5);
+    text::print_filled(
+        b", ram # bytes: refusal #, offset #, length #\n",
+        [ram as u64, found.refusal as u64, found.offset, found.length],
+    );
+}
+
+pub fn print_views() {
+    let plain: &[u8] = b"page view";
+    print_view(plain, 4, 4096, 0xC_0000);
+    print_view(plain, 4, 8192, 0xC_0001);
+    print_view(b"page view past RAM", 4, 4096, 0xC_0001);
+    print_view(b"page view of ROM", 4, 4096, 0xE_0000);
+    print_view(b"page view without an entry", 4, 4096, 0);
+    print_view(b"page view of the last page", 4, 4096, 0xF_FFFF);
+    print_view(b"page view past the last page", 4, 4096, 0x10_0000);
+    print_view(plain, 4, 0, 0xC_0000);
+    print_view(plain, 4, 4097, 0xC_0000);
+    print_view(b"page view, not fit", 3, 4096, 0xC_0000);
+    print_view(b"page view, causes 1, 6 and 8", 3, 4097, 0x10_0000);
+    print_view(b"page view, causes 6 and 8", 3, 4096, 0x10_0000);
+}

@@ -1,0 +1,2 @@
+-- The laws of `load_store`.
+mod Widths
