@@ -1,7 +1,8 @@
-# The library, its command-line host, the belt's week, the tests, and the installation.
+# The library, its command-line host, the belt's week, the pusher, the tests, and the installation.
 #
 #   make                               the library, if it is missing or older than crates/, libeco32.so, target/host/eco32 and its page
 #   make week                          the library and the belt's week (examples/belt)
+#   make pusher                        the library and the pusher that the timer paces (examples/timer)
 #   make check                         the tests that need no proof, in under a minute
 #   make test                          the gate, .ci/run
 #   make bench                         the model's speed beside a plain C simulator's and the Rust simulator's; its code at six places
@@ -36,7 +37,7 @@ SONAME = libeco32.so.$(ABI)
 SHARED_NAME = $(SONAME).$(word 2,$(subst ., ,$(VERSION))).$(word 3,$(subst ., ,$(VERSION)))
 SHARED = target/shared/$(SHARED_NAME)
 MANUAL = target/man/eco32.1
-MADE_OF_PROOFS = $(LIBRARY) target/shared/libeco32.so* $(HOST) $(BELT) $(BENCH) $(PLACEMENTS)
+MADE_OF_PROOFS = $(LIBRARY) target/shared/libeco32.so* $(HOST) $(BELT) $(PUSHER) $(BENCH) $(PLACEMENTS)
 
 # The bench: -O3 for C, as cargo's release profile has it for Rust. BENCH_FLAGS may be --steps N and --rounds N.
 BENCH = target/bench/bench
@@ -56,7 +57,11 @@ BELT = target/belt
 BELT_SOURCES := $(wildcard examples/belt/*.c)
 WEEK = examples/belt/belt.rom examples/belt/belt.ram examples/belt/packs.txt examples/belt/cell.txt
 
-.PHONY: all week check test bench cargo install uninstall clean absolute
+# A stroke every 1,000 steps, and 6 strokes.
+PUSHER = target/pusher
+STROKES = examples/timer/pusher.rom 1000 6
+
+.PHONY: all week pusher check test bench cargo install uninstall clean absolute
 
 all: $(LIBRARY) $(HOST)
 
@@ -91,6 +96,12 @@ $(BELT): $(BELT_SOURCES) $(wildcard examples/belt/*.h include/*.h) $(LIBRARY)
 
 week: $(BELT)
 	@$(BELT) $(WEEK)
+
+$(PUSHER): examples/timer/pusher.c $(wildcard include/*.h) $(LIBRARY)
+	@$(CC) -std=c11 $(WARNINGS) $(CPPFLAGS) $(CFLAGS) $(LDFLAGS) -Iinclude $< $(LIBRARY) $(LDLIBS) -o $@
+
+pusher: $(PUSHER)
+	@$(PUSHER) $(STROKES)
 
 check:
 	@tests/check
@@ -184,4 +195,4 @@ uninstall: absolute
 
 clean:
 	rm -rf target/host target/bench target/shared target/man target/install
-	rm -f $(LIBRARY) $(LIBRARY_LOG) $(BELT)
+	rm -f $(LIBRARY) $(LIBRARY_LOG) $(BELT) $(PUSHER)

@@ -11,7 +11,7 @@ static int say_no_word(const char *path, const struct pair *pair)
     int length = snprintf(text, sizeof text, "%08" PRIX64, pair->first);
     struct place place = {path, pair->line, text, (size_t)length};
 
-    return say_bad_line(&place, "no word of RAM, ROM or belt has that address");
+    return say_bad_line(&place, "no word of RAM, ROM, belt or timer has that address");
 }
 
 int compare_read(const struct options *options, const struct world *world, struct pairs *words)
@@ -21,9 +21,10 @@ int compare_read(const struct options *options, const struct world *world, struc
                                           "has no line \"ADDRESS VALUE\": there is nothing to compare"};
     const char *path = options->given[OPTION_COMPARE];
     int status = path == NULL ? STATUS_GOOD : pairs_read(path, &form, words);
+    uint32_t word;
 
     for (size_t i = 0; status == STATUS_GOOD && i < words->count; i++)
-        if (world_word(world, words->at[i].first) == NULL)
+        if (!world_word(world, words->at[i].first, &word))
             status = say_no_word(path, &words->at[i]);
     return status;
 }
@@ -33,10 +34,10 @@ int compare(const struct world *world, const struct pairs *words)
     size_t differ = 0;
 
     for (size_t i = 0; i < words->count; i++) {
-        uint64_t model = word_at(world_word(world, words->at[i].first));
-        if (model == words->at[i].second)
+        uint32_t model;
+        if (!world_word(world, words->at[i].first, &model) || model == words->at[i].second)
             continue;
-        printf("%08" PRIX64 ": model %08" PRIX64 ", given %08" PRIX64 "\n", words->at[i].first, model,
+        printf("%08" PRIX64 ": model %08" PRIX32 ", given %08" PRIX64 "\n", words->at[i].first, model,
                words->at[i].second);
         differ++;
     }

@@ -1,5 +1,6 @@
 #include "files.h"
 #include "say.h"
+#include "state.h"
 #include "world.h"
 
 #include <stdio.h>
@@ -98,6 +99,7 @@ static int make_belt(const struct options *options, struct world *world)
     return read_refused(path, ECO32_BELT_LENGTH, ECO32_REFUSED_BELT_LENGTH, &world->belt);
 }
 
+/* A record without the timer, as versions before 0.3 wrote it, is read too: the library takes both lengths. */
 static int make_machine(const struct options *options, struct world *world)
 {
     const char *path = options->given[OPTION_LOAD];
@@ -146,18 +148,34 @@ static const uint8_t *word_in(const struct bytes *bytes, uint64_t begins, uint64
     return bytes->at + (physical - begins);
 }
 
-const uint8_t *world_word(const struct world *world, uint64_t physical)
+/* The timer answers at two words; its counter has no address. */
+static int timer_word(const uint8_t *machine, uint64_t physical, uint32_t *word)
 {
-    const uint8_t *word = word_in(&world->ram, 0, physical);
+    if (physical != ECO32_TIMER_CONTROL && physical != ECO32_TIMER_DIVISOR)
+        return 0;
+    *word = physical == ECO32_TIMER_CONTROL ? state_timer_control(machine) : state_timer_divisor(machine);
+    return 1;
+}
 
-    if (word == NULL)
-        word = word_in(&world->rom, ROM_BEGINS, physical);
-    return word == NULL ? word_in(&world->belt, BELT_BEGINS, physical) : word;
+int world_word(const struct world *world, uint64_t physical, uint32_t *word)
+{
+    const uint8_t *at = word_in(&world->ram, 0, physical);
+
+    if (at == NULL)
+        at = word_in(&world->rom, ROM_BEGINS, physical);
+    if (at == NULL)
+        at = word_in(&world->belt, BELT_BEGINS, physical);
+    if (at == NULL)
+        return timer_word(world->machine, physical, word);
+    *word = word_at(at);
+    return 1;
 }
 
 const char *world_part(uint64_t physical)
 {
     if (physical < ROM_BEGINS)
         return "RAM";
-    return physical < BELT_BEGINS ? "ROM" : "belt";
+    if (physical < ECO32_TIMER_CONTROL)
+        return "ROM";
+    return physical < BELT_BEGINS ? "timer" : "belt";
 }

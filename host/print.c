@@ -13,6 +13,7 @@
 void print_registers(const uint8_t *machine)
 {
     uint32_t psw = state_special(machine, SPECIAL_PSW);
+    uint32_t control = state_timer_control(machine);
 
     for (unsigned i = 0; i < REGISTER_COUNT; i++)
         printf("R%-2u %08" PRIX32 "%s", i, state_register(machine, i), i % 4 == 3 ? "\n" : "  ");
@@ -23,6 +24,8 @@ void print_registers(const uint8_t *machine)
     for (int i = SPECIAL_INDEX; i < SPECIAL_COUNT; i++)
         printf("%s %08" PRIX32 "%s", special_name((enum special)i), state_special(machine, (enum special)i),
                i == SPECIAL_COUNT - 1 ? "\n" : "  ");
+    printf("Timer  Divisor %08" PRIX32 "  Counter %08" PRIX32 "  Control %" PRIX32 "  enable %u  wrap %u\n",
+           state_timer_divisor(machine), state_timer_counter(machine), control, control >> 1 & 1, control & 1);
 }
 
 void print_tlb(const uint8_t *machine)

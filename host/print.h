@@ -4,6 +4,7 @@
 
 #include "world.h"
 
+/* The registers, and the timer. */
 void print_registers(const uint8_t *machine);
 
 void print_tlb(const uint8_t *machine);

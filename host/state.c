@@ -35,6 +35,21 @@ uint32_t state_replacement(const uint8_t *machine)
     return machine[ECO32_RECORD_REPLACEMENT];
 }
 
+uint32_t state_timer_divisor(const uint8_t *machine)
+{
+    return word_at(machine + ECO32_RECORD_TIMER_DIVISOR);
+}
+
+uint32_t state_timer_counter(const uint8_t *machine)
+{
+    return word_at(machine + ECO32_RECORD_TIMER_COUNTER);
+}
+
+uint32_t state_timer_control(const uint8_t *machine)
+{
+    return machine[ECO32_RECORD_TIMER_CONTROL];
+}
+
 char state_mode(const uint8_t *machine)
 {
     return state_special(machine, SPECIAL_PSW) & PSW_USER_MODE ? 'U' : 'K';

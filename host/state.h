@@ -15,6 +15,11 @@ uint32_t state_special(const uint8_t *machine, enum special special);
 uint32_t state_tlb_high(const uint8_t *machine, unsigned slot);
 uint32_t state_tlb_low(const uint8_t *machine, unsigned slot);
 uint32_t state_replacement(const uint8_t *machine);
+uint32_t state_timer_divisor(const uint8_t *machine);
+uint32_t state_timer_counter(const uint8_t *machine);
+
+/* As the word that a program loads: bit 1 interrupt enable, bit 0 the wrap flag. */
+uint32_t state_timer_control(const uint8_t *machine);
 
 /* K or U. */
 char state_mode(const uint8_t *machine);

@@ -14,14 +14,12 @@
 
 void trace_before(const struct world *world, struct trace *before)
 {
-    const uint8_t *word = NULL;
     uint32_t physical;
 
     memcpy(before->machine, world->machine, sizeof before->machine);
-    if (mapping_find(before->machine, state_pc(before->machine), 4, &physical))
-        word = world_word(world, physical);
-    before->has_word = word != NULL;
-    before->word = word == NULL ? 0 : word_at(word);
+    before->word = 0;
+    before->has_word = mapping_find(before->machine, state_pc(before->machine), 4, &physical) &&
+                       world_word(world, physical, &before->word);
 }
 
 static void trace_registers(const uint8_t *before, const uint8_t *after)
@@ -58,24 +56,44 @@ static unsigned store_width(uint32_t word)
 
 /* The instruction word says that a step stores, and where: comparing memory before and after would not show a store
  * of the bytes that are there already, and would cost a pass over RAM. The bytes shown are those that stand there
- * after the step: a store to ROM shows what ROM has kept. */
+ * after the step: a store to ROM shows what ROM has kept, and one to the timer's control what the tick left there. */
 static void trace_store(const struct trace *before, const struct world *world)
 {
     unsigned width = store_width(before->word);
     uint32_t base = state_register(before->machine, before->word >> 21 & 31);
     uint32_t offset = (before->word & 0xFFFF) ^ 0x8000;
     uint32_t address = base + offset - 0x8000;
-    const uint8_t *word = NULL;
     uint32_t physical;
+    uint32_t word;
 
-    if (width != 0 && mapping_find(before->machine, address, width, &physical))
-        word = world_word(world, physical & ~3U);
-    if (word == NULL)
+    if (width == 0 || !mapping_find(before->machine, address, width, &physical) ||
+        !world_word(world, physical & ~3U, &word))
         return;
     printf(" [%08" PRIX32 "]=", address);
-    for (unsigned i = 0; i < width; i++)
-        printf("%02X", word[physical % 4 + i]);
+    for (unsigned i = physical % 4; i < physical % 4 + width; i++)
+        printf("%02X", word >> (24 - 8 * i) & 0xFF);
     printf(" (%s %08" PRIX32 ")", world_part(physical), physical);
+}
+
+/* Whether the counter rested, or just went down by 1, as it does in nearly every step of a timer that runs. */
+static int counts_on(const uint8_t *before, const uint8_t *after)
+{
+    uint32_t counter = state_timer_counter(before);
+
+    if (state_timer_divisor(after) == 0)
+        return state_timer_counter(after) == counter;
+    return counter > 1 && state_timer_counter(after) == counter - 1;
+}
+
+/* With the line before, this says what the whole timer is. */
+static void trace_timer(const uint8_t *before, const uint8_t *after)
+{
+    if (state_timer_divisor(before) != state_timer_divisor(after))
+        printf(" Divisor=%08" PRIX32, state_timer_divisor(after));
+    if (!counts_on(before, after))
+        printf(" Counter=%08" PRIX32, state_timer_counter(after));
+    if (state_timer_control(before) != state_timer_control(after))
+        printf(" Control=%" PRIX32, state_timer_control(after));
 }
 
 void trace_after(uint64_t step, uint32_t eid, const struct trace *before, const struct world *world)
@@ -97,6 +115,7 @@ void trace_after(uint64_t step, uint32_t eid, const struct trace *before, const 
     trace_tlb(before->machine, world->machine);
     if (eid == ECO32_NO_EXCEPTION)
         trace_store(before, world);
+    trace_timer(before->machine, world->machine);
     if (next != pc + 4)
         printf(" PC=%08" PRIX32, next);
     putchar('\n');

@@ -1,4 +1,4 @@
-/* What is lent to the model: the machine, RAM, ROM and the belt. */
+/* What is lent to the model: the machine with its timer, RAM, ROM and the belt. */
 #ifndef HOST_WORLD_H
 #define HOST_WORLD_H
 
@@ -19,10 +19,10 @@ int world_make(const struct options *options, struct world *world);
 
 void world_free(struct world *world);
 
-/* The word at a physical address, or null where no word of RAM, ROM or belt is. */
-const uint8_t *world_word(const struct world *world, uint64_t physical);
+/* The word at a physical address. Answers 1, or 0 where no word of RAM, ROM, belt or timer is. */
+int world_word(const struct world *world, uint64_t physical, uint32_t *word);
 
-/* Which of the three a physical address that has a word is in: "RAM", "ROM" or "belt". */
+/* Which of the four a physical address that has a word is in: "RAM", "ROM", "belt" or "timer". */
 const char *world_part(uint64_t physical);
 
 #endif

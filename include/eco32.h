@@ -2,9 +2,9 @@
  * eco32.h - a model of the ECO32 processor, to be linked from libeco32.a or
  * libeco32.so.
  *
- * One machine is one ECO32 processor with RAM, ROM and 256 belt registers.
- * The library keeps nothing between calls: the processor travels as a machine
- * record of 414 bytes, and the memory is yours.
+ * One machine is one ECO32 processor with a timer, RAM, ROM and 256 belt
+ * registers. The library keeps nothing between calls: processor and timer
+ * travel as a machine record of 424 bytes, and the memory is yours.
  *
  * Memory. You own every buffer. A call uses the buffers it is handed until it
  * returns, and keeps no pointer to them. It reads and writes no byte outside
@@ -18,6 +18,14 @@
  * what the call takes. A refused call leaves every byte of every buffer as it
  * was, the machine's too. A program that faults is no cause for a refusal: the
  * fault is an event of the modelled processor.
+ *
+ * Timer. It ticks once after every step, a step that accepts an exception too.
+ * With divisor 0 nothing moves. Otherwise a counter at 0 or 1 takes the divisor
+ * and sets the wrap flag, and any other counter goes down by 1. Control has two
+ * bits: interrupt enable (bit 1) and the wrap flag (bit 0). While both are set,
+ * channel 14 is ready, whatever your line 14 is. A step looks at its interrupts
+ * before its own tick. Programs load and store control and divisor, as whole
+ * words, at the addresses below; a store to the divisor loads the counter too.
  *
  * Words in records, ROM and RAM images and belt registers are big-endian.
  *
@@ -38,40 +46,51 @@ extern "C" {
  * need changes for a later one if the major number is another, or, as long as
  * that is 0, the minor number. */
 #define ECO32_VERSION_MAJOR 0
-#define ECO32_VERSION_MINOR 2
+#define ECO32_VERSION_MINOR 3
 #define ECO32_VERSION_PATCH 0
-#define ECO32_VERSION "0.2.0"
+#define ECO32_VERSION "0.3.0"
 
 /* The number N in libeco32.so.N, the name of the shared library. It goes up with
  * the first version in which a program that was linked before would no longer
  * run right: a struct has another layout, a record another length or other
  * places, a call other parameters, or one is gone. It also goes up with the
  * major number. */
-#define ECO32_ABI 1
+#define ECO32_ABI 2
 
 /* Length of a machine record. Its items, in this order, each behind its kind
  * byte: 01, registers 0 to 31 (128 bytes); 02, PC (4); 03, PSW, TLB Index,
  * Entry High, Entry Low, Bad Address (20); 04, 32 TLB entries of high word and
- * low word (256); 05, the replacement index (1). */
-#define ECO32_RECORD_LENGTH 414
+ * low word (256); 05, the replacement index (1); 06, the timer: divisor,
+ * counter, control (9). */
+#define ECO32_RECORD_LENGTH 424
 
-/* Where these stand in a record. All but the replacement index are words. */
-#define ECO32_RECORD_REGISTERS 1     /* register i stands 4 * i further */
+/* Length of a record of a version before 0.3: the first five items alone. Where
+ * a call only reads a machine or record, it takes one of this length too, with
+ * the timer at zero. What it writes has ECO32_RECORD_LENGTH bytes. */
+#define ECO32_OLD_RECORD_LENGTH 414
+
+/* Where these stand in a record. All are words but the replacement index and
+ * the timer's control. */
+#define ECO32_RECORD_REGISTERS 1       /* register i stands 4 * i further */
 #define ECO32_RECORD_PC 130
 #define ECO32_RECORD_PSW 135
 #define ECO32_RECORD_TLB_INDEX 139
 #define ECO32_RECORD_ENTRY_HIGH 143
 #define ECO32_RECORD_ENTRY_LOW 147
 #define ECO32_RECORD_BAD_ADDRESS 151
-#define ECO32_RECORD_TLB 156         /* entry i stands 8 * i further: high word, low word */
-#define ECO32_RECORD_REPLACEMENT 413 /* one byte */
+#define ECO32_RECORD_TLB 156           /* entry i stands 8 * i further: high word, low word */
+#define ECO32_RECORD_REPLACEMENT 413   /* one byte */
+#define ECO32_RECORD_TIMER_DIVISOR 415
+#define ECO32_RECORD_TIMER_COUNTER 419
+#define ECO32_RECORD_TIMER_CONTROL 423 /* one byte, 0 to 3 */
 
-/* Where the kind bytes 01 to 05 stand. */
+/* Where the kind bytes 01 to 06 stand. */
 #define ECO32_RECORD_KIND_REGISTERS 0
 #define ECO32_RECORD_KIND_PC 129
 #define ECO32_RECORD_KIND_SPECIAL 134
 #define ECO32_RECORD_KIND_TLB 155
 #define ECO32_RECORD_KIND_REPLACEMENT 412
+#define ECO32_RECORD_KIND_TIMER 414
 
 /* RAM and ROM lengths are multiples of 4,096 within these bounds. RAM stands at
  * physical 00000000, ROM at 20000000. */
@@ -84,6 +103,13 @@ extern "C" {
 /* The belt registers: 256 words at physical 30500000. */
 #define ECO32_BELT_LENGTH 1024
 
+/* The timer's registers, by physical address: words, which programs load, store
+ * and fetch. A store to control keeps bits 1 and 0. A narrower access times out
+ * (16), and so does every word from 30000008 to 300FFFFF. The counter has no
+ * address. */
+#define ECO32_TIMER_CONTROL 0x30000000
+#define ECO32_TIMER_DIVISOR 0x30000004
+
 /* Most steps that one run may be asked for. */
 #define ECO32_MOST_STEPS 1000000
 
@@ -95,10 +121,11 @@ extern "C" {
 #define ECO32_REFUSED_RAM_LENGTH 1    /* RAM length: no multiple of 4,096 in 4,096 .. 536,870,912 */
 #define ECO32_REFUSED_ROM_LENGTH 2    /* ROM length: no multiple of 4,096 in 4,096 .. 268,435,456 */
 #define ECO32_REFUSED_BELT_LENGTH 3   /* belt length not 1,024 */
-#define ECO32_REFUSED_RECORD_LENGTH 4 /* machine, record or buffer for one not 414 bytes */
+#define ECO32_REFUSED_RECORD_LENGTH 4 /* machine or record: only read and neither 414 nor 424 bytes, or
+                                         written and not 424 */
 #define ECO32_REFUSED_KIND_BYTE 5     /* a kind byte of the record is not in its place */
-#define ECO32_REFUSED_UNFIT_MACHINE 6 /* register 0 not 0, replacement index outside 4 .. 31, or a
-                                         bit set that the processor never keeps */
+#define ECO32_REFUSED_UNFIT_MACHINE 6 /* register 0 not 0, replacement index outside 4 .. 31, timer's
+                                         control above 3, or a bit set that is never kept */
 #define ECO32_REFUSED_STEPS 7         /* more than 1,000,000 steps wanted */
 #define ECO32_REFUSED_PAGE 8          /* page view: no RAM frame behind that page */
 
@@ -136,20 +163,20 @@ ECO32_ASSERT(offsetof(struct eco32_view, length) == 16, "eco32_view.length");
 
 /*
  * Writes the machine at reset to machine: PC E0000000, PSW and all registers
- * 0, TLB high words C0000000 and low words 0, replacement index 4.
+ * 0, TLB high words C0000000 and low words 0, replacement index 4, timer 0.
  *
- *   machine  buffer of 414 bytes; its contents do not matter
+ *   machine  buffer of 424 bytes; its contents do not matter
  *
  * Answers 0 or 4.
  */
 uint32_t eco32_reset(uint8_t *machine, size_t machine_len);
 
 /*
- * Reads a record, say from a file, to machine, which then holds the same 414
- * bytes.
+ * Reads a record, say from a file, to machine, which then holds the same 424
+ * bytes. Of a record of 414 bytes it holds these, and the timer at zero.
  *
- *   record   the record; never written
- *   machine  buffer of 414 bytes; its contents do not matter
+ *   record   the record, 424 or 414 bytes; never written
+ *   machine  buffer of 424 bytes; its contents do not matter
  *
  * Answers 0, 4 (for either length), 5 or 6.
  */
@@ -157,10 +184,11 @@ uint32_t eco32_read_record(const uint8_t *record, size_t record_len,
                            uint8_t *machine, size_t machine_len);
 
 /*
- * Writes a machine to record, which then holds the same 414 bytes.
+ * Writes a machine to record, which then holds the same 424 bytes. Of a machine
+ * of 414 bytes it holds these, and the timer at zero.
  *
- *   machine  the machine; never written
- *   record   buffer of 414 bytes; its contents do not matter
+ *   machine  the machine, 424 or 414 bytes; never written
+ *   record   buffer of 424 bytes; its contents do not matter
  *
  * Answers 0, 4 (for either length), 5 or 6.
  */
@@ -169,14 +197,16 @@ uint32_t eco32_write_record(const uint8_t *machine, size_t machine_len,
 
 /*
  * Plain run: makes exactly the wanted steps, through exceptions and
- * interrupts too. A step accepts an interrupt or executes one instruction.
+ * interrupts too. A step accepts an interrupt or executes one instruction, and
+ * then the timer ticks.
  *
- *   machine  the machine; written with the state after the run
+ *   machine  the machine, 424 bytes; written with the state after the run
  *   ram      RAM; written by the program's stores
  *   rom      ROM; never written, a program's store to it changes nothing
  *   belt     belt registers, 1,024 bytes; written by the program's stores
  *   wanted   steps, at most 1,000,000; 0 is accepted and changes nothing
- *   lines    interrupt lines, bit i for channel i, held for the whole run
+ *   lines    interrupt lines, bit i for channel i, held for the whole run;
+ *            channel 14 is ready by your line or by the timer
  *
  * Answers a refusal 0 to 7, the steps made, and EID 32.
  */
@@ -207,7 +237,7 @@ struct eco32_answer eco32_run_to_exception(uint8_t *machine, size_t machine_len,
  * written.
  *
  *   ram      RAM; only its length is used
- *   machine  the machine, for its TLB
+ *   machine  the machine, 424 or 414 bytes, for its TLB
  *   page     virtual page number, 0 to FFFFF
  *
  * Answers 0 with the offset in RAM and the length 4,096; or 1, 4, 5, 6 or 8

@@ -23,12 +23,13 @@ static inline const char *eco32_refusal_text(uint32_t number)
     case ECO32_REFUSED_BELT_LENGTH:
         return "belt length is not 1,024";
     case ECO32_REFUSED_RECORD_LENGTH:
-        return "a machine, a record or a buffer for one is not 414 bytes";
+        return "a machine or record that is only read is neither 414 nor 424 bytes, "
+               "or one that is written is not 424";
     case ECO32_REFUSED_KIND_BYTE:
         return "a kind byte of the record is not in its place";
     case ECO32_REFUSED_UNFIT_MACHINE:
-        return "register 0 is not 0, the replacement index is outside 4 to 31, "
-               "or a bit is set that the processor never keeps";
+        return "register 0 is not 0, the replacement index outside 4 to 31, the timer's control above 3, "
+               "or a bit set that is never kept";
     case ECO32_REFUSED_STEPS:
         return "more than 1,000,000 steps are wanted";
     case ECO32_REFUSED_PAGE:

@@ -76,4 +76,6 @@ void tell_record(const struct cell *c)
         if (tlb_high(c, n) < 0xC0000000)
             printf("  04 TLB entry %2d %08" PRIX32 " %08" PRIX32 "\n", n, tlb_high(c, n), tlb_low(c, n));
     printf("  05 replacement  %d\n", c->machine[ECO32_RECORD_REPLACEMENT]);
+    printf("  06 timer        %08" PRIX32 " %08" PRIX32 " %d\n", word(c->machine + ECO32_RECORD_TIMER_DIVISOR),
+           word(c->machine + ECO32_RECORD_TIMER_COUNTER), c->machine[ECO32_RECORD_TIMER_CONTROL]);
 }

@@ -70,6 +70,8 @@ static const char *place(uint32_t frame)
         return "in RAM";
     if (frame >= 0x20000 && frame < 0x20000 + BELT_ROM_LENGTH / ECO32_FRAME_LENGTH)
         return "in ROM";
+    if (frame == ECO32_TIMER_CONTROL / ECO32_FRAME_LENGTH)
+        return "timer";
     return frame == 0x30500 ? "belt registers" : "nothing is there";
 }
 

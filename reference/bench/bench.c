@@ -32,10 +32,14 @@ static const struct side sides[SIDES] = {{"model", eco32_run}, {"C", plain_run},
 struct workload {
     const char *name;
     void (*image)(struct world *world);
+    int timed;
 };
 
-static const struct workload workloads[] = {{"Kernel Mode, direct-mapped", image_kernel},
-                                            {"User Mode, eight pages", image_user}};
+/* The last two are the first two with a timer that runs. */
+static const struct workload workloads[] = {{"Kernel Mode, direct-mapped", image_kernel, 0},
+                                            {"User Mode, eight pages", image_user, 0},
+                                            {"Kernel Mode, timer running", image_kernel, 1},
+                                            {"User Mode, timer running", image_user, 1}};
 
 struct options {
     uint64_t steps;
@@ -143,6 +147,8 @@ static void report(const struct workload *workload, const struct options *option
     int n;
 
     workload->image(&start);
+    if (workload->timed)
+        start_timer(&start);
     measure(&start, options->steps, options->rounds, least);
     printf("%-26s", workload->name);
     for (n = 0; n < SIDES; n++)

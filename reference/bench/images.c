@@ -172,6 +172,15 @@ void image_user(struct world *world)
     plain_write(&m, world->record);
 }
 
+void start_timer(struct world *world)
+{
+    struct plain_machine m;
+
+    plain_read(&m, world->record);
+    m.timer.divisor = m.timer.counter = 1000;
+    plain_write(&m, world->record);
+}
+
 /* A word of one register and a 16-bit number. */
 #define WORD(opcode, r, z) ((uint32_t)(opcode) << 26 | (uint32_t)(r) << 16 | (z))
 

@@ -22,6 +22,9 @@ void image_kernel(struct world *world);
  * without exception. */
 void image_user(struct world *world);
 
+/* The machine's timer set going: it wraps every thousand steps, and asks for no interrupt. */
+void start_timer(struct world *world);
+
 /* One instruction over and over. */
 struct kind {
     const char *name;

@@ -14,7 +14,9 @@ enum eid {
     TLB_INVALID,
     ILLEGAL_ADDRESS,
     PRIVILEGED_ADDRESS,
-    NONE = ECO32_NO_EXCEPTION
+    NONE = ECO32_NO_EXCEPTION,
+    CONTROL_STORED, /* no exception either: a store to the timer has completed */
+    DIVISOR_STORED
 };
 
 #define PSW_V 0x08000000u
@@ -56,7 +58,7 @@ static uint32_t extend26(uint32_t value)
     return (uint32_t)((int32_t)(value << 6) >> 6);
 }
 
-/* Like all below that make an instruction, it answers an EID or NONE. */
+/* Like all below that make an instruction, it answers an EID, or NONE or what follows NONE. */
 static uint32_t set(struct plain_machine *m, uint32_t number, uint32_t value)
 {
     if (number != 0)
@@ -171,9 +173,17 @@ static uint32_t load(struct plain_machine *m, const struct plain_memory *memory,
         *value = from_bytes(memory->rom + (at - ROM_BASE), size);
     else if (at - BELT_BASE < ECO32_BELT_LENGTH && size == 4)
         *value = from_bytes(memory->belt + (at - BELT_BASE), size);
+    else if (timer_answers(at) && size == 4)
+        *value = timer_load(&m->timer, at);
     else
         return BUS_TIMEOUT;
     return NONE;
+}
+
+static uint32_t store_timer(struct plain_machine *m, uint32_t at, uint32_t value)
+{
+    timer_store(&m->timer, at, value);
+    return at == TIMER_CONTROL ? CONTROL_STORED : DIVISOR_STORED;
 }
 
 /* A store to ROM completes and changes nothing. */
@@ -189,6 +199,8 @@ static uint32_t store(struct plain_machine *m, const struct plain_memory *memory
         to_bytes(memory->ram + at, size, value);
     else if (at - BELT_BASE < ECO32_BELT_LENGTH && size == 4)
         to_bytes(memory->belt + (at - BELT_BASE), size, value);
+    else if (timer_answers(at) && size == 4)
+        return store_timer(m, at, value);
     else if (at - ROM_BASE >= memory->rom_length)
         return BUS_TIMEOUT;
     return NONE;
@@ -435,7 +447,8 @@ static uint32_t lowest_bit(uint32_t bits)
     return n;
 }
 
-uint32_t plain_step(struct plain_machine *m, const struct plain_memory *memory, uint16_t lines)
+/* A step without its tick. */
+static uint32_t step(struct plain_machine *m, const struct plain_memory *memory, uint16_t lines)
 {
     uint32_t ready = m->special[PSW] & lines;
     uint32_t pc = m->pc;
@@ -447,9 +460,36 @@ uint32_t plain_step(struct plain_machine *m, const struct plain_memory *memory, 
         return eid;
     }
     eid = execute(m, memory);
-    if (eid != NONE)
+    if (eid < NONE)
         enter(m, pc, eid, eid == TLB_MISS && m->special[BAD_ADDRESS] < PRIVILEGED_BASE ? 8 : 4);
     return eid;
+}
+
+uint32_t plain_step(struct plain_machine *m, const struct plain_memory *memory, uint16_t lines)
+{
+    uint32_t eid = step(m, memory, timer_lines(&m->timer, lines));
+
+    timer_ticks(&m->timer, 1);
+    return eid < NONE ? eid : NONE;
+}
+
+/* Steps up to the timer's next wrap, to a store to the timer or to the most wanted, and their ticks. A new divisor has
+ * taken the counter, so it only gets the tick of its own step. */
+static uint64_t stretch(struct plain_machine *m, const struct plain_memory *memory, uint16_t lines, uint64_t most)
+{
+    uint64_t to_wrap = timer_to_wrap(&m->timer);
+    uint64_t made = 0;
+    uint32_t eid;
+
+    lines = timer_lines(&m->timer, lines);
+    if (most > to_wrap)
+        most = to_wrap;
+    do {
+        eid = step(m, memory, lines);
+        made++;
+    } while (made < most && eid <= NONE);
+    timer_ticks(&m->timer, eid == DIVISOR_STORED ? 1 : made);
+    return made;
 }
 
 struct eco32_answer plain_run(uint8_t *machine, size_t machine_len, uint8_t *ram, size_t ram_len, const uint8_t *rom,
@@ -458,13 +498,13 @@ struct eco32_answer plain_run(uint8_t *machine, size_t machine_len, uint8_t *ram
     struct plain_memory memory = {ram, ram_len, rom, rom_len, belt};
     struct eco32_answer answer = {ECO32_ACCEPTED, (uint32_t)wanted, ECO32_NO_EXCEPTION};
     struct plain_machine m;
-    uint64_t made;
+    uint64_t made = 0;
 
-    (void)machine_len; /* 414 and 1,024, as the caller has to see to */
+    (void)machine_len; /* 424 and 1,024, as the caller has to see to */
     (void)belt_len;
     plain_read(&m, machine);
-    for (made = 0; made < wanted; made++)
-        plain_step(&m, &memory, lines);
+    while (made < wanted)
+        made += stretch(&m, &memory, lines, wanted - made);
     plain_write(&m, machine);
     return answer;
 }

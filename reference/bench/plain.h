@@ -1,11 +1,13 @@
 /*
  * A plain ECO32 simulator in C, to measure the model by: one step in place, with no table, cache or translation made
- * beforehand. It refuses nothing: it may be handed only what eco32_run would accept.
+ * beforehand. A run makes the timer's ticks together where nothing can tell (timer.h). It refuses nothing: it may be
+ * handed only what eco32_run would accept.
  */
 #ifndef BENCH_PLAIN_H
 #define BENCH_PLAIN_H
 
 #include "eco32.h"
+#include "timer.h"
 
 /* Numbers of the special registers. */
 enum special { PSW, TLB_INDEX, ENTRY_HIGH, ENTRY_LOW, BAD_ADDRESS, SPECIALS };
@@ -21,6 +23,7 @@ struct plain_machine {
     uint32_t special[SPECIALS];
     struct plain_entry tlb[32];
     uint32_t replacement;
+    struct plain_timer timer;
 };
 
 struct plain_memory {
@@ -33,11 +36,11 @@ struct plain_memory {
 
 void plain_reset(struct plain_machine *m);
 
-/* Between a machine and its record of 414 bytes. */
+/* Between a machine and its record of 424 bytes. */
 void plain_read(struct plain_machine *m, const uint8_t *record);
 void plain_write(const struct plain_machine *m, uint8_t *record);
 
-/* Makes one step. Answers the EID of the exception that it accepted, or 32. */
+/* Makes one step and its tick. Answers the EID of the exception that it accepted, or 32. */
 uint32_t plain_step(struct plain_machine *m, const struct plain_memory *memory, uint16_t lines);
 
 /* The plain run, called as eco32_run is. */

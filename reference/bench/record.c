@@ -51,7 +51,11 @@ void plain_read(struct plain_machine *m, const uint8_t *record)
         m->tlb[n].low = get(&at);
     }
     at++;
-    m->replacement = *at;
+    m->replacement = *at++;
+    at++;
+    m->timer.divisor = get(&at);
+    m->timer.counter = get(&at);
+    m->timer.control = *at;
 }
 
 void plain_write(const struct plain_machine *m, uint8_t *record)
@@ -73,5 +77,9 @@ void plain_write(const struct plain_machine *m, uint8_t *record)
         put(&at, m->tlb[n].low);
     }
     *at++ = 5;
-    *at = (uint8_t)m->replacement;
+    *at++ = (uint8_t)m->replacement;
+    *at++ = 6;
+    put(&at, m->timer.divisor);
+    put(&at, m->timer.counter);
+    *at = (uint8_t)m->timer.control;
 }

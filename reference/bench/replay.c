@@ -1,5 +1,6 @@
 /*
- * Replays the file of vectors on the plain simulator: machine, EID and all memory after each step.
+ * Replays the file of vectors on the plain simulator: machine, EID and all memory after each step. Steps in a row with the
+ * same lines are made once more as one run, which has to end alike: it makes the timer's ticks in another way.
  *
  * The file's commands have 8 bytes, big-endian: a kind byte, a number a of 24 bits, a number b of 32 bits.
  * reference/src/vectors/writer.rs writes them.
@@ -22,6 +23,9 @@ struct scene {
 struct replay {
     struct scene expected;
     struct scene found;
+    struct scene run; /* as found, but for the steps that wait for their run */
+    uint64_t waiting;
+    uint16_t lines; /* of the steps that wait */
     unsigned long cases;
     unsigned long steps;
     unsigned long mismatches;
@@ -57,7 +61,32 @@ static void clear(struct scene *scene)
 /* Most mismatches that are told one by one. */
 #define MOST_TOLD 10
 
-/* A mismatch is counted, and the replay goes on from the expected scene, so that each step is judged by itself. */
+/* Counts a mismatch. Answers whether it is told. */
+static int mismatch(struct replay *replay)
+{
+    return ++replay->mismatches <= MOST_TOLD;
+}
+
+/* Makes the run of the steps that wait. */
+static void run(struct replay *replay)
+{
+    struct scene *scene = &replay->run;
+    uint64_t steps = replay->waiting;
+
+    if (steps == 0)
+        return;
+    replay->waiting = 0;
+    plain_run(scene->record, sizeof scene->record, scene->ram, sizeof scene->ram, scene->rom, sizeof scene->rom,
+              scene->belt, sizeof scene->belt, steps, replay->lines);
+    if (memcmp(scene, &replay->found, sizeof *scene) == 0)
+        return;
+    if (mismatch(replay))
+        fprintf(stderr, "replay: case %lu, up to step %lu of the file: a run of %lu steps ends in another state\n",
+                replay->cases, replay->steps, (unsigned long)steps);
+    *scene = replay->found;
+}
+
+/* The replay goes on from the expected scene, so that each step is judged by itself. */
 static void step(struct replay *replay, uint16_t lines, uint32_t expected_eid)
 {
     struct scene *found = &replay->found;
@@ -65,16 +94,22 @@ static void step(struct replay *replay, uint16_t lines, uint32_t expected_eid)
     struct plain_machine m;
     uint32_t eid;
 
+    if (lines != replay->lines)
+        run(replay);
+    replay->lines = lines;
+    replay->waiting++;
     plain_read(&m, found->record);
     eid = plain_step(&m, &memory, lines);
     plain_write(&m, found->record);
     replay->steps++;
     if (eid == expected_eid && memcmp(found, &replay->expected, sizeof *found) == 0)
         return;
-    if (++replay->mismatches <= MOST_TOLD)
+    if (mismatch(replay))
         fprintf(stderr, "replay: case %lu, step %lu of the file: another state or EID (%lu, expected %lu)\n",
                 replay->cases, replay->steps, (unsigned long)eid, (unsigned long)expected_eid);
     *found = replay->expected;
+    replay->run = replay->expected;
+    replay->waiting = 0;
 }
 
 /* Answers 0 at the end of the file. */
@@ -86,6 +121,7 @@ static int obey(struct replay *replay, const uint8_t *command)
 
     switch (command[0]) {
     case CLEAR:
+        run(replay);
         clear(expected);
         replay->cases++;
         break;
@@ -98,9 +134,13 @@ static int obey(struct replay *replay, const uint8_t *command)
     case RAM_WORD: put_word(expected->ram, sizeof expected->ram, a, command + 4); break;
     case ROM_WORD: put_word(expected->rom, sizeof expected->rom, a, command + 4); break;
     case BELT_WORD: put_word(expected->belt, sizeof expected->belt, a, command + 4); break;
-    case START: replay->found = *expected; break;
+    case START:
+        run(replay);
+        replay->found = replay->run = *expected;
+        break;
     case STEP: step(replay, (uint16_t)a, b); break;
     case END:
+        run(replay);
         if (b != replay->cases)
             fail("the file of vectors is damaged: it has another count of cases");
         return 0;

@@ -1,5 +1,6 @@
 //! Host calls on record bytes, with the checks in the order of the table in
-//! document 01, "Refused calls". No buffer changes in a refused call.
+//! document 01, "Refused calls". No buffer changes in a refused call. A record
+//! that is only read may have the old length (document 02, job 1).
 
 use crate::memory::Memory;
 use crate::processor::Processor;
@@ -32,7 +33,7 @@ pub fn write_record(machine: &[u8], record: &mut [u8]) -> u32 {
 
 /// Checks one record and writes it to another buffer.
 fn transfer(from: &[u8], to: &mut [u8]) -> u32 {
-    if from.len() != RECORD_LENGTH || to.len() != RECORD_LENGTH {
+    if !record::readable(from.len()) || to.len() != RECORD_LENGTH {
         return refusal::RECORD_LENGTH;
     }
     let (refusal, machine) = record::read_record(from);
@@ -42,11 +43,15 @@ fn transfer(from: &[u8], to: &mut [u8]) -> u32 {
     record::write_record(&machine, to)
 }
 
-/// Reads the machine of a run: refusals 1 to 6.
+/// Reads the machine of a run: refusals 1 to 6. The run writes it too, so it
+/// has the length of a record that is written.
 fn machine_for_run(machine: &[u8], memory: &Memory) -> Result<Processor, u32> {
     let refusal = memory_refusal(memory);
     if refusal != refusal::NONE {
         return Err(refusal);
+    }
+    if machine.len() != RECORD_LENGTH {
+        return Err(refusal::RECORD_LENGTH);
     }
     match record::read_record(machine) {
         (refusal::NONE, processor) => Ok(processor),

@@ -1,4 +1,5 @@
-//! Physical memory: RAM, ROM and belt registers behind the bus.
+//! Physical memory: RAM, ROM and belt registers behind the bus. The timer is
+//! asked before them (step.rs): it is part of the machine, and not lent.
 
 use crate::exception::Fault;
 

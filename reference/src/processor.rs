@@ -1,5 +1,7 @@
 //! Processor state: register file, PC, special registers, TLB, replacement
-//! index.
+//! index; and the timer, which a record holds beside them.
+
+use crate::timer::Timer;
 
 /// PSW vector bit: 0 selects the ROM base, 1 the RAM base (manual 2.7.1).
 pub const PSW_V: u32 = 1 << 27;
@@ -31,7 +33,7 @@ pub struct TlbEntry {
     pub low: u32,
 }
 
-/// The whole processor state, in the order of the machine record.
+/// The whole processor state and the timer, in the order of the machine record.
 #[derive(Clone, Debug, PartialEq, Eq)]
 pub struct Processor {
     pub registers: [u32; 32],
@@ -43,11 +45,13 @@ pub struct Processor {
     pub bad_address: u32,
     pub tlb: [TlbEntry; 32],
     pub replacement: u8,
+    pub timer: Timer,
 }
 
 impl Processor {
     /// The machine at reset: document 01, "Closed by us". The special
-    /// registers count among the registers there, so all of them are 0.
+    /// registers count among the registers there, so all of them are 0, and so
+    /// is the timer (document 02, job 1).
     pub fn reset() -> Processor {
         Processor {
             registers: [0; 32],
@@ -62,11 +66,12 @@ impl Processor {
                 low: 0,
             }; 32],
             replacement: FIRST_REPLACED,
+            timer: Timer::default(),
         }
     }
 
     /// Whether the machine passes the test of refusal 6 (document 01,
-    /// "Refused calls").
+    /// "Refused calls"; document 02, job 1).
     pub fn fit(&self) -> bool {
         let only = |word: u32, kept: u32| word & !kept == 0;
         self.registers[0] == 0
@@ -79,6 +84,7 @@ impl Processor {
                 .tlb
                 .iter()
                 .all(|entry| only(entry.high, KEPT_HIGH) && only(entry.low, KEPT_LOW))
+            && self.timer.fit()
     }
 
     /// Reads a general-purpose register; register 0 reads 0 (manual 2.4).

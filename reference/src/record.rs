@@ -1,19 +1,25 @@
-//! The machine record: 414 bytes in five items (document 01, "What the host
-//! lends").
+//! The machine record: 424 bytes in six items (document 01, "What the host
+//! lends"; document 02, job 1). A record without the sixth is still read.
 
 use crate::processor::{Processor, TlbEntry};
 use crate::run::refusal;
+use crate::timer::Timer;
 
-pub const RECORD_LENGTH: usize = 414;
+pub const RECORD_LENGTH: usize = 424;
+/// Length of a record from before the timer.
+pub const OLD_RECORD_LENGTH: usize = 414;
 
 /// Offset and value of each kind byte.
-pub const KIND_BYTES: [(usize, u8); 5] = [(0, 1), (129, 2), (134, 3), (155, 4), (412, 5)];
+pub const KIND_BYTES: [(usize, u8); 6] = [(0, 1), (129, 2), (134, 3), (155, 4), (412, 5), (414, 6)];
 
 const REGISTERS_AT: usize = 1;
 const PC_AT: usize = 130;
 const SPECIALS_AT: usize = 135;
 const TLB_AT: usize = 156;
-const REPLACEMENT_AT: usize = 413;
+pub const REPLACEMENT_AT: usize = 413;
+pub const DIVISOR_AT: usize = 415;
+pub const COUNTER_AT: usize = 419;
+pub const CONTROL_AT: usize = 423;
 
 fn word_at(record: &[u8], at: usize) -> u32 {
     u32::from_be_bytes([record[at], record[at + 1], record[at + 2], record[at + 3]])
@@ -23,7 +29,12 @@ fn put_word(record: &mut [u8], at: usize, value: u32) {
     record[at..at + 4].copy_from_slice(&value.to_be_bytes());
 }
 
-/// Takes the items out of a record of full length, without any test of them.
+/// Whether a record of so many bytes is read.
+pub fn readable(length: usize) -> bool {
+    length == RECORD_LENGTH || length == OLD_RECORD_LENGTH
+}
+
+/// Takes the items out of a record of either length, without any test of them.
 fn decode(record: &[u8]) -> Processor {
     let mut machine = Processor::reset();
     for (n, register) in machine.registers.iter_mut().enumerate() {
@@ -42,16 +53,24 @@ fn decode(record: &[u8]) -> Processor {
         };
     }
     machine.replacement = record[REPLACEMENT_AT];
+    if record.len() == RECORD_LENGTH {
+        machine.timer = Timer {
+            divisor: word_at(record, DIVISOR_AT),
+            counter: word_at(record, COUNTER_AT),
+            control: record[CONTROL_AT],
+        };
+    }
     machine
 }
 
 /// Reads a record: refusal 4, 5 or 6 with the reset machine, or 0 with the
-/// machine read.
+/// machine read. One of the old length gives the timer at zero.
 pub fn read_record(record: &[u8]) -> (u32, Processor) {
-    if record.len() != RECORD_LENGTH {
+    if !readable(record.len()) {
         return (refusal::RECORD_LENGTH, Processor::reset());
     }
-    if KIND_BYTES.iter().any(|&(at, kind)| record[at] != kind) {
+    let misplaced = |&(at, kind): &(usize, u8)| record.get(at).is_some_and(|&found| found != kind);
+    if KIND_BYTES.iter().any(misplaced) {
         return (refusal::KIND_BYTE, Processor::reset());
     }
     let machine = decode(record);
@@ -85,5 +104,8 @@ pub fn write_record(machine: &Processor, record: &mut [u8]) -> u32 {
         put_word(record, TLB_AT + 8 * n + 4, entry.low);
     }
     record[REPLACEMENT_AT] = machine.replacement;
+    put_word(record, DIVISOR_AT, machine.timer.divisor);
+    put_word(record, COUNTER_AT, machine.timer.counter);
+    record[CONTROL_AT] = machine.timer.control;
     refusal::NONE
 }

@@ -1,9 +1,10 @@
-//! One step: interrupt or instruction.
+//! One step: interrupt or instruction, then the timer's tick.
 
 use crate::exception::{Fault, NO_EXCEPTION};
 use crate::memory::{Memory, Width};
 use crate::mmu::Access;
 use crate::processor::{Processor, PSW_IC};
+use crate::timer;
 
 /// Sign-extends the low 16 bits.
 fn sign_extend_16(value: u32) -> u32 {
@@ -52,9 +53,15 @@ fn shift_arithmetic(x: u32, count: u32) -> u32 {
 }
 
 impl Processor {
-    /// Makes one step (document 01, "One step"). Answers the EID of the
-    /// exception accepted in it, or 32.
+    /// Makes one step and the tick after it (document 01, "One step"; document
+    /// 02, job 1). Answers the EID of the exception accepted in it, or 32.
     pub fn step(&mut self, memory: &mut Memory, lines: u16) -> u32 {
+        let eid = self.step_without_tick(memory, lines);
+        self.timer.tick();
+        eid
+    }
+
+    fn step_without_tick(&mut self, memory: &mut Memory, lines: u16) -> u32 {
         if let Some(channel) = self.due_channel(lines) {
             self.accept_interrupt(channel);
             return channel;
@@ -70,9 +77,10 @@ impl Processor {
     }
 
     /// The interrupt channel to accept, the lowest where several are ready
-    /// (document 01, "Closed by us").
+    /// (document 01, "Closed by us"). Channel 14 is the host's line or the
+    /// timer's (document 02, job 1).
     fn due_channel(&self, lines: u16) -> Option<u32> {
-        let ready = u32::from(lines) & self.psw & 0xFFFF;
+        let ready = u32::from(lines | self.timer.lines()) & self.psw;
         if self.psw & PSW_IC != 0 && ready != 0 {
             Some(ready.trailing_zeros())
         } else {
@@ -82,18 +90,27 @@ impl Processor {
 
     fn load(&self, memory: &Memory, address: u32, width: Width) -> Result<u32, Fault> {
         let physical = self.translate(address, width, Access::Load, self.user_mode())?;
-        memory.load(physical, width)
+        match timer::register_at(physical, width) {
+            Some(register) => Ok(self.timer.load(register)),
+            None => memory.load(physical, width),
+        }
     }
 
     fn store(
-        &self,
+        &mut self,
         memory: &mut Memory,
         address: u32,
         width: Width,
         value: u32,
     ) -> Result<(), Fault> {
         let physical = self.translate(address, width, Access::Store, self.user_mode())?;
-        memory.store(physical, width, value)
+        match timer::register_at(physical, width) {
+            Some(register) => {
+                self.timer.store(register, value);
+                Ok(())
+            }
+            None => memory.store(physical, width, value),
+        }
     }
 
     fn require_kernel_mode(&self) -> Result<(), Fault> {

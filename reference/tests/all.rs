@@ -19,4 +19,7 @@ mod programs;
 mod record;
 mod runs;
 mod system;
+mod timer;
+mod timer_access;
+mod timer_interrupts;
 mod vectors;

@@ -6,7 +6,7 @@ use eco32_reference::belt::barcode::KNOWN_CODES;
 use eco32_reference::belt::layout::*;
 use eco32_reference::belt::{ram, rom, Images};
 use eco32_reference::builder::Builder;
-use eco32_reference::{page_view, Processor, NO_EXCEPTION};
+use eco32_reference::{page_view, Processor, Timer, NO_EXCEPTION};
 use std::process::Command;
 
 const EXAMPLE: &str = concat!(env!("CARGO_MANIFEST_DIR"), "/../examples/belt");
@@ -354,7 +354,15 @@ fn record_text(cpu: &Processor) -> String {
             ));
         }
     }
-    lines.push(format!("  05 replacement  {}\n", cpu.replacement));
+    lines.push(format!("  05 replacement  {}", cpu.replacement));
+    let Timer {
+        divisor,
+        counter,
+        control,
+    } = cpu.timer;
+    lines.push(format!(
+        "  06 timer        {divisor:08X} {counter:08X} {control}\n"
+    ));
     lines.join("\n")
 }
 

@@ -128,12 +128,22 @@ fn a_million_steps_and_one_more() {
 
 #[test]
 fn record_lengths() {
-    let mut buffer = [0; 415];
-    for (length, refusal) in [(413, 4), (414, 0), (415, 4)] {
-        let record = &mut buffer[..length];
-        assert_eq!(write_record(&Processor::reset(), record), refusal);
-        assert_eq!(read_record(record).0, refusal);
-        assert_eq!(host::reset(record), refusal);
+    // Writing takes 424 bytes, reading 414 as well (document 02, job 1).
+    let mut whole = [0; 424];
+    assert_eq!(host::reset(&mut whole), 0);
+    for (length, writing, reading) in [
+        (413, 4, 4),
+        (414, 4, 0),
+        (415, 4, 4),
+        (423, 4, 4),
+        (424, 0, 0),
+        (425, 4, 4),
+    ] {
+        let mut record = whole.to_vec();
+        record.resize(length, 0);
+        assert_eq!(read_record(&record).0, reading);
+        assert_eq!(write_record(&Processor::reset(), &mut record), writing);
+        assert_eq!(host::reset(&mut record), writing);
     }
 }
 

@@ -1,6 +1,6 @@
 //! Each line of document 01, "Closed by us".
 
-use crate::common::{put, Rig};
+use crate::common::{put, timer, Rig};
 use eco32_reference::asm::*;
 use eco32_reference::{Processor, TlbEntry};
 
@@ -185,5 +185,6 @@ fn reset_machine() {
         assert_eq!((entry.high, entry.low), (0xC000_0000, 0));
     }
     assert_eq!(machine.replacement, 4);
+    assert_eq!(machine.timer, timer(0, 0, 0));
     assert!(machine.fit());
 }

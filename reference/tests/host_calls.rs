@@ -3,10 +3,10 @@
 use crate::common;
 use crate::common::{get, Numbers, Rig};
 use eco32_reference::asm::*;
-use eco32_reference::{host, write_record, Answer, Processor};
+use eco32_reference::{host, write_record, Answer, Processor, Timer};
 
 fn record_of(machine: &Processor) -> Vec<u8> {
-    let mut record = vec![0; 414];
+    let mut record = vec![0; 424];
     assert_eq!(write_record(machine, &mut record), 0);
     record
 }
@@ -21,14 +21,14 @@ fn damaged(record: &[u8], length: bool, kind: bool, bit: bool) -> Vec<u8> {
         record[129] = 9;
     }
     if length {
-        record.truncate(413);
+        record.truncate(423);
     }
     record
 }
 
 #[test]
 fn reset() {
-    for (length, refusal) in [(0, 4), (413, 4), (414, 0), (415, 4)] {
+    for (length, refusal) in [(0, 4), (413, 4), (414, 4), (423, 4), (424, 0), (425, 4)] {
         let mut machine = vec![0x77; length];
         assert_eq!(host::reset(&mut machine), refusal);
         if refusal == 0 {
@@ -46,7 +46,7 @@ fn record_calls() {
         for causes in 0..16u32 {
             let holds = |n: u32| causes >> n & 1 == 1;
             let from = damaged(&whole, holds(0), holds(2), holds(3));
-            let mut to = vec![0x77; if holds(1) { 415 } else { 414 }];
+            let mut to = vec![0x77; if holds(1) { 414 } else { 424 }];
             let refusal = match causes.trailing_zeros() {
                 0 | 1 => 4,
                 2 => 5,
@@ -59,6 +59,47 @@ fn record_calls() {
             } else {
                 assert!(to.iter().all(|&byte| byte == 0x77));
             }
+        }
+    }
+}
+
+/// A record or machine from before the timer is read where it is not written.
+#[test]
+fn old_records() {
+    let mut processor = Numbers(10).fit_machine();
+    let old = record_of(&processor)[..414].to_vec();
+    processor.timer = Timer::default();
+    let new = record_of(&processor);
+    for call in [host::read_record, host::write_record] {
+        for (length, refusal) in [(413, 4), (414, 4), (423, 4), (424, 0), (425, 4)] {
+            let mut to = vec![0x77; length];
+            assert_eq!(call(&old, &mut to), refusal, "{length}");
+            let left = if refusal == 0 {
+                new.clone()
+            } else {
+                vec![0x77; length]
+            };
+            assert_eq!(to, left);
+        }
+        for (kind, bit, refusal) in [(true, true, 5), (true, false, 5), (false, true, 6)] {
+            let mut to = vec![0x77; 424];
+            let from = damaged(&old, false, kind, bit);
+            assert_eq!(call(&from, &mut to), refusal);
+            assert!(to.iter().all(|&byte| byte == 0x77));
+        }
+    }
+    // A run writes its machine.
+    for call in [host::run, host::run_to_exception] {
+        let mut rig = program();
+        let before = rig.clone();
+        for wanted in [0, 6, 1_000_001] {
+            let mut machine = record_of(&rig.cpu)[..414].to_vec();
+            let unchanged = machine.clone();
+            let (ram, belt) = (&mut rig.ram, &mut rig.belt);
+            let answer = call(&mut machine, ram, &rig.rom, belt, wanted, 0);
+            assert_eq!(answer, Answer::refused(4));
+            assert_eq!(machine, unchanged);
+            before.memory_equals(&rig, "refused");
         }
     }
 }
@@ -198,9 +239,13 @@ fn page_views() {
             4 => 8,
             _ => 0,
         };
-        let view = host::page_view(ram, &machine, page);
-        assert_eq!(view.refusal, refusal, "{causes:05b}");
-        let place = if refusal == 0 { (8192, 4096) } else { (0, 0) };
-        assert_eq!((view.offset, view.length), place);
+        let old = damaged(&whole[..414], holds(1), holds(2), holds(3));
+        let old = &old[..if holds(1) { 413 } else { 414 }];
+        for machine in [&machine, old] {
+            let view = host::page_view(ram, machine, page);
+            assert_eq!(view.refusal, refusal, "{causes:05b}");
+            let place = if refusal == 0 { (8192, 4096) } else { (0, 0) };
+            assert_eq!((view.offset, view.length), place);
+        }
     }
 }

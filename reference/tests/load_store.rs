@@ -149,13 +149,13 @@ fn misaligned_access_gives_24() {
 #[test]
 fn every_transfer_can_time_out() {
     let transfers: [Transfer; 8] = [ldw, ldh, ldhu, ldb, ldbu, stw, sth, stb];
-    // First addresses behind RAM, ROM and belt registers, last before belt
-    // registers, and the end of the direct-mapped space.
+    // First addresses behind RAM, ROM, the timer's registers and the belt's,
+    // last before the belt's, and the end of the direct-mapped space.
     let holes = [
         0xC000_2000,
         0xDFFF_FFFC,
         0xE000_1000,
-        0xF000_0000,
+        0xF000_0008,
         0xF04F_FFFC,
         0xF050_0400,
         0xFFFF_FFFC,

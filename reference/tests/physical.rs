@@ -202,6 +202,7 @@ fn any_machine_steps_without_a_panic() {
             entry.low = numbers.next();
         }
         rig.cpu.replacement = numbers.next() as u8;
+        rig.cpu.timer = common::timer(numbers.next(), numbers.next() % 4, numbers.next() as u8);
         for _ in 0..4 {
             let eid = rig.step_with(numbers.next() as u16);
             assert!(eid <= 25 || eid == 32);

@@ -23,7 +23,7 @@ struct Machine {
 
 impl Machine {
     fn new() -> Machine {
-        let mut record = vec![0; 414];
+        let mut record = vec![0; 424];
         write_record(&Processor::reset(), &mut record);
         Machine {
             record,

@@ -1,11 +1,24 @@
-/* Reads a trace of a run on RAM of 65,536 zeros, up to the line about the steps, and writes the RAM that its stores
- * make. Fails where a line has no PC that follows from the line before, where a step that stores shows no store or
- * another step shows one, or where a step without a fetch is neither an interrupt nor a fault of a fetch. */
+/* Reads a trace of a run from reset on RAM of 65,536 zeros and without lines, up to the line about the steps, and writes
+ * the RAM that its stores make. Fails where a line has no PC that follows from the line before, where a step that stores
+ * shows no store or another step shows one, where a step without a fetch is neither an interrupt nor a fault of a fetch,
+ * where the timer is not what the line before and the tick make of it, or where its interrupt comes or fails to come. */
 #include <stdio.h>
 #include <stdlib.h>
 #include <string.h>
 
 #define RAM_LENGTH 65536
+#define CHANNEL 14
+#define PSW_ACCEPTS 0x00804000UL /* I_C, and bit 14 of IEN */
+
+/* What a trace line follows from. */
+struct state {
+    unsigned long step;
+    unsigned long pc;
+    unsigned long psw;
+    unsigned long divisor;
+    unsigned long counter;
+    unsigned long control;
+};
 
 static unsigned char ram[RAM_LENGTH];
 
@@ -17,16 +30,20 @@ static void check(int holds, const char *line, const char *says)
     exit(1);
 }
 
-/* A store as [ADDRESS]=BYTES (PART PHYSICAL). */
-static void store(const char *at, const char *line)
+/* A store as [ADDRESS]=BYTES (PART PHYSICAL). One to the timer loads the counter too, before the tick. */
+static void store(const char *at, const char *line, struct state *s)
 {
     unsigned long address;
     unsigned long physical;
     char bytes[9];
-    char part[5];
+    char part[6];
 
-    check(sscanf(at, " [%8lx]=%8[0-9A-F] (%4[A-Za-z] %8lx)", &address, bytes, part, &physical) == 4, line, "no store");
+    check(sscanf(at, " [%8lx]=%8[0-9A-F] (%5[A-Za-z] %8lx)", &address, bytes, part, &physical) == 4, line, "no store");
     check(strlen(bytes) / 2 == 1 || address % (strlen(bytes) / 2) == 0, line, "not aligned");
+    if (strcmp(part, "timer") == 0 && physical == 0x30000004)
+        s->divisor = s->counter = strtoul(bytes, NULL, 16);
+    else if (strcmp(part, "timer") == 0)
+        s->control = strtoul(bytes, NULL, 16);
     if (strcmp(part, "RAM") != 0)
         return;
     check(physical + 4 <= RAM_LENGTH, line, "not in RAM");
@@ -42,9 +59,37 @@ static int may_lack_word(long eid)
     return (eid >= 0 && eid <= 16) || eid == 21 || (eid >= 23 && eid <= 25);
 }
 
-/* Takes the line of a step, and answers the PC after it. */
-static unsigned long take(const char *line, unsigned long step, unsigned long pc)
+/* What stands behind a name such as " PSW=", in a line that has it only if it has to. */
+static void shows(const char *line, const char *name, int has_to, unsigned long value)
 {
+    const char *at = strstr(line, name);
+
+    check((at != NULL) == has_to, line, "shown, or not");
+    check(at == NULL || strtoul(at + strlen(name), NULL, 16) == value, line, "another value");
+}
+
+/* The tick, after the step's own store. A control that was stored is shown with the flag that the tick set. */
+static void tick(const char *line, const struct state *before, struct state *s)
+{
+    int counts_on;
+
+    check(s->control <= 3, line, "a bit that control does not keep");
+    if (s->divisor != 0 && s->counter <= 1) {
+        s->counter = s->divisor;
+        s->control |= 1;
+    } else if (s->divisor != 0) {
+        s->counter--;
+    }
+    counts_on = s->divisor == 0 ? s->counter == before->counter : before->counter > 1 && s->counter == before->counter - 1;
+    shows(line, " Divisor=", s->divisor != before->divisor, s->divisor);
+    shows(line, " Counter=", !counts_on, s->counter);
+    shows(line, " Control=", s->control != before->control, s->control);
+}
+
+/* Takes the line of a step. */
+static void take(const char *line, struct state *s)
+{
+    struct state before = *s;
     unsigned long number;
     unsigned long at;
     char word[9];
@@ -52,29 +97,33 @@ static unsigned long take(const char *line, unsigned long step, unsigned long pc
     char eid[3];
     const char *stored = strstr(line, " [");
     const char *jumped = strstr(line, " PC=");
+    const char *psw = strstr(line, " PSW=");
     unsigned long opcode;
-    int stores;
+    int completes;
 
     check(sscanf(line, "%lu %8lx %8s %c %2s", &number, &at, word, &mode, eid) == 5, line, "no step");
-    check(number == step && (step == 1 || at == pc), line, "does not follow");
+    check(number == ++s->step && (number == 1 || at == s->pc), line, "does not follow");
+    completes = strcmp(eid, "--") == 0;
     opcode = strtoul(word, NULL, 16) >> 26;
-    stores = strcmp(eid, "--") == 0 && opcode >= 0x35 && opcode <= 0x37;
-    check(stores == (stored != NULL), line, "a store, or none");
-    check(strcmp(word, "--------") != 0 || (strcmp(eid, "--") != 0 && may_lack_word(strtol(eid, NULL, 10))), line,
-          "no word");
+    check((completes && opcode >= 0x35 && opcode <= 0x37) == (stored != NULL), line, "a store, or none");
+    check(strcmp(word, "--------") != 0 || (!completes && may_lack_word(strtol(eid, NULL, 10))), line, "no word");
+    check((!completes && strtol(eid, NULL, 10) == CHANNEL) == (s->control == 3 && (s->psw & PSW_ACCEPTS) == PSW_ACCEPTS),
+          line, "an interrupt, or none");
     if (stored != NULL)
-        store(stored, line);
-    return jumped != NULL ? strtoul(jumped + 4, NULL, 16) : (at + 4) & 0xFFFFFFFF;
+        store(stored, line, s);
+    tick(line, &before, s);
+    if (psw != NULL)
+        s->psw = strtoul(psw + 5, NULL, 16);
+    s->pc = jumped != NULL ? strtoul(jumped + 4, NULL, 16) : (at + 4) & 0xFFFFFFFF;
 }
 
 int main(void)
 {
     char line[4096];
-    unsigned long step = 0;
-    unsigned long pc = 0;
+    struct state s = {0, 0, 0, 0, 0, 0};
 
     while (fgets(line, sizeof line, stdin) != NULL && strncmp(line, "steps ", 6) != 0)
-        pc = take(line, ++step, pc);
-    check(step > 0, "", "no steps\n");
+        take(line, &s);
+    check(s.step > 0, "", "no steps\n");
     return fwrite(ram, 1, RAM_LENGTH, stdout) == RAM_LENGTH ? 0 : 1;
 }

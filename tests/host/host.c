@@ -1,4 +1,4 @@
-/* A host written from include/eco32.h alone: every call, its answers and its refusals. */
+/* A host written from include/eco32.h alone: every call, its answers and its refusals; the timer. */
 #include "eco32.h"
 
 #include <stdio.h>
@@ -92,6 +92,14 @@ static void refusals(void)
     w.machine[ECO32_RECORD_KIND_REGISTERS] = 1;
     w.machine[ECO32_RECORD_REPLACEMENT] = 3;
     check(run(&w, sizeof w.ram, 1).refusal == ECO32_REFUSED_UNFIT_MACHINE, "an unfit machine");
+    w = before;
+    w.machine[ECO32_RECORD_KIND_TIMER] = 7;
+    check(run(&w, sizeof w.ram, 1).refusal == ECO32_REFUSED_KIND_BYTE, "a wrong kind byte of the timer");
+    w.machine[ECO32_RECORD_KIND_TIMER] = 6;
+    w.machine[ECO32_RECORD_TIMER_CONTROL] = 4;
+    check(run(&w, sizeof w.ram, 1).refusal == ECO32_REFUSED_UNFIT_MACHINE, "a control above 3");
+    w.machine[ECO32_RECORD_TIMER_CONTROL] = 3;
+    check(run(&w, sizeof w.ram, 1).refusal == ECO32_ACCEPTED, "a control of 3");
 }
 
 static void records(void)
@@ -103,8 +111,121 @@ static void records(void)
     run(&w, sizeof w.ram, 2);
     check(eco32_write_record(w.machine, sizeof w.machine, copy, sizeof copy) == ECO32_ACCEPTED, "write a record");
     check(memcmp(copy, w.machine, sizeof copy) == 0, "the same bytes");
-    check(eco32_read_record(copy, sizeof copy - 1, w.machine, sizeof w.machine) == ECO32_REFUSED_RECORD_LENGTH, "413 bytes");
     check(eco32_read_record(copy, sizeof copy, w.machine, sizeof w.machine) == ECO32_ACCEPTED, "read a record");
+}
+
+/* A machine whose timer runs, and what is left of it in a record of 414 bytes. */
+static void load_timed(struct world *w)
+{
+    load_program(w);
+    put_word(w->machine + ECO32_RECORD_TIMER_DIVISOR, 7);
+    put_word(w->machine + ECO32_RECORD_TIMER_COUNTER, 5);
+    w->machine[ECO32_RECORD_TIMER_CONTROL] = 2;
+}
+
+static int is_without_timer(const uint8_t *copy, const uint8_t *machine)
+{
+    static const uint8_t timer[ECO32_RECORD_LENGTH - ECO32_OLD_RECORD_LENGTH] = {6};
+
+    return memcmp(copy, machine, ECO32_OLD_RECORD_LENGTH) == 0 &&
+           memcmp(copy + ECO32_OLD_RECORD_LENGTH, timer, sizeof timer) == 0;
+}
+
+static void old_records(void)
+{
+    struct world w;
+    uint8_t copy[ECO32_RECORD_LENGTH];
+
+    load_timed(&w);
+    memset(copy, 0xEE, sizeof copy);
+    check(eco32_read_record(w.machine, ECO32_OLD_RECORD_LENGTH, copy, sizeof copy) == ECO32_ACCEPTED, "read 414 bytes");
+    check(is_without_timer(copy, w.machine), "414 bytes are read with the timer at zero");
+    memset(copy, 0xEE, sizeof copy);
+    check(eco32_write_record(w.machine, ECO32_OLD_RECORD_LENGTH, copy, sizeof copy) == ECO32_ACCEPTED, "write from 414 bytes");
+    check(is_without_timer(copy, w.machine), "414 bytes are written with the timer at zero");
+    check(eco32_page_view(w.ram, sizeof w.ram, w.machine, ECO32_OLD_RECORD_LENGTH, 0xC0001).refusal == ECO32_ACCEPTED,
+          "a page view by 414 bytes");
+    check(eco32_read_record(w.machine, sizeof w.machine, copy, sizeof copy) == ECO32_ACCEPTED &&
+              memcmp(copy, w.machine, sizeof copy) == 0,
+          "424 bytes are read with their timer");
+}
+
+/* Lengths that no record has, and 414 where a machine is written: refused, and nothing changes. */
+static void other_lengths(void)
+{
+    static const size_t never[] = {0, 413, 415, 423, 425};
+    struct world w, before;
+    uint8_t longer[ECO32_RECORD_LENGTH + 1], copy[ECO32_RECORD_LENGTH + 1], kept[ECO32_RECORD_LENGTH + 1];
+    size_t i, old = ECO32_OLD_RECORD_LENGTH;
+
+    load_timed(&w);
+    before = w;
+    memset(longer, 0, sizeof longer);
+    memcpy(longer, w.machine, sizeof w.machine);
+    memset(copy, 0xEE, sizeof copy);
+    memcpy(kept, copy, sizeof copy);
+    for (i = 0; i <= sizeof never / sizeof never[0]; i++) {
+        size_t n = i < sizeof never / sizeof never[0] ? never[i] : old;
+        int reads = n == old;
+        check(reads || eco32_read_record(longer, n, copy, sizeof w.machine) == ECO32_REFUSED_RECORD_LENGTH, "a source read");
+        check(reads || eco32_write_record(longer, n, copy, sizeof w.machine) == ECO32_REFUSED_RECORD_LENGTH, "a source written");
+        check(reads || eco32_page_view(w.ram, sizeof w.ram, longer, n, 0xC0001).refusal == ECO32_REFUSED_RECORD_LENGTH, "a view");
+        check(eco32_reset(copy, n) == ECO32_REFUSED_RECORD_LENGTH, "a machine at reset");
+        check(eco32_read_record(longer, sizeof w.machine, copy, n) == ECO32_REFUSED_RECORD_LENGTH, "a target of reading");
+        check(eco32_write_record(longer, sizeof w.machine, copy, n) == ECO32_REFUSED_RECORD_LENGTH, "a target of writing");
+        check(eco32_run(longer, n, w.ram, sizeof w.ram, w.rom, sizeof w.rom, w.belt, sizeof w.belt, 1, 0).refusal ==
+                  ECO32_REFUSED_RECORD_LENGTH,
+              "the machine of a run");
+    }
+    check(memcmp(copy, kept, sizeof copy) == 0, "a target of another length is left as it was");
+    check(memcmp(longer, w.machine, sizeof w.machine) == 0 && memcmp(&w, &before, sizeof w) == 0, "and so is all else");
+}
+
+/* LDHI R1, F000; ADDI R2, R0, 3; STW R2, R1, 4: the divisor; STW R2, R1, 0: control; LDW R3, R1, 0; J by -1. */
+static void load_timer_program(struct world *w)
+{
+    static const uint32_t program[] = {0x7C01F000, 0x04020003, 0xD4220004, 0xD4220000, 0xC0230000, 0xABFFFFFF};
+    size_t i;
+
+    load_program(w);
+    for (i = 0; i < sizeof program / sizeof program[0]; i++)
+        put_word(w->rom + 4 * i, program[i]);
+}
+
+static int timer_is(const struct world *w, uint32_t divisor, uint32_t counter, uint8_t control)
+{
+    return get_word(w->machine + ECO32_RECORD_TIMER_DIVISOR) == divisor &&
+           get_word(w->machine + ECO32_RECORD_TIMER_COUNTER) == counter &&
+           w->machine[ECO32_RECORD_TIMER_CONTROL] == control;
+}
+
+static void timer(void)
+{
+    struct world w;
+    struct eco32_answer a;
+
+    load_timer_program(&w);
+    check(timer_is(&w, 0, 0, 0), "the timer at reset");
+    run(&w, sizeof w.ram, 2);
+    check(timer_is(&w, 0, 0, 0), "with divisor 0 nothing moves");
+    run(&w, sizeof w.ram, 1);
+    check(timer_is(&w, 3, 2, 0), "a store to the divisor loads the counter, and then the timer ticks");
+    run(&w, sizeof w.ram, 1);
+    check(timer_is(&w, 3, 1, 3), "a store to control sets both bits");
+    run(&w, sizeof w.ram, 1);
+    check(timer_is(&w, 3, 3, 3) && get_word(w.machine + ECO32_RECORD_REGISTERS + 4 * 3) == 3, "a wrap, and a load of control");
+
+    /* Both bits are set, so channel 14 is ready as soon as the PSW accepts it: I_C, and bit 14 of IEN. */
+    put_word(w.machine + ECO32_RECORD_PSW, 0x00804000);
+    a = run_to_exception(&w, 9);
+    check(a.steps == 1 && a.eid == 14 && timer_is(&w, 3, 2, 3), "the timer interrupts by channel 14, and ticks on");
+    put_word(w.machine + ECO32_RECORD_PSW, 0x00804000);
+    w.machine[ECO32_RECORD_TIMER_CONTROL] = 1;
+    w.machine[ECO32_RECORD_TIMER_DIVISOR + 3] = 0;
+    check(run_to_exception(&w, 1).eid == ECO32_NO_EXCEPTION, "without the enable bit the timer does not interrupt");
+    check(eco32_run_to_exception(w.machine, sizeof w.machine, w.ram, sizeof w.ram, w.rom, sizeof w.rom, w.belt, sizeof w.belt,
+                                 1, 0x4000).eid == 14,
+          "but the line does");
 }
 
 static void views(void)
@@ -124,6 +245,9 @@ int main(void)
     runs();
     refusals();
     records();
+    old_records();
+    other_lengths();
+    timer();
     views();
     if (failures == 0)
         printf("host: every call answered as eco32.h says\n");

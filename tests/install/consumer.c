@@ -75,6 +75,13 @@ int main(void)
     print_bytes("psw", machine + ECO32_RECORD_PSW, 4);
     print_number("write", eco32_write_record(machine, sizeof machine, copy, sizeof copy));
     print_bytes("record", copy, sizeof copy);
+    copy[ECO32_RECORD_TIMER_DIVISOR + 3] = 9;
+    print_number("timed", eco32_read_record(copy, sizeof copy, machine, sizeof machine));
+    print_answer("ticks", eco32_run(machine, sizeof machine, ram, sizeof ram, rom, sizeof rom, belt, sizeof belt, 3, 0));
+    print_bytes("timer", machine + ECO32_RECORD_KIND_TIMER, 10);
+    print_number("old", eco32_read_record(copy, ECO32_OLD_RECORD_LENGTH, machine, sizeof machine));
+    print_bytes("no timer", machine + ECO32_RECORD_KIND_TIMER, 10);
+    print_number("short", eco32_read_record(copy, sizeof copy - 1, machine, sizeof machine));
     print_view("view", eco32_page_view(ram, sizeof ram, machine, sizeof machine, 0xC0001));
     print_bytes("ram", ram, 16);
     print_bytes("belt", belt, 16);

@@ -77,6 +77,13 @@ words("to exception", run_to_exception(machine, ram, rom, belt, NUMBER["MOST_STE
 hexadecimal("psw", machine[NUMBER["RECORD_PSW"]:][:4])
 print("write", write_record(machine, copy))
 hexadecimal("record", copy)
+copy[NUMBER["RECORD_TIMER_DIVISOR"] + 3] = 9
+print("timed", read_record(copy, machine))
+words("ticks", run(machine, ram, rom, belt, 3, 0))
+hexadecimal("timer", machine[NUMBER["RECORD_KIND_TIMER"]:][:10])
+print("old", read_record((ctypes.c_uint8 * NUMBER["OLD_RECORD_LENGTH"]).from_buffer(copy), machine))
+hexadecimal("no timer", machine[NUMBER["RECORD_KIND_TIMER"]:][:10])
+print("short", read_record((ctypes.c_uint8 * (len(copy) - 1)).from_buffer(copy), machine))
 words("view", page_view(ram, machine, 0xC0001))
 hexadecimal("ram", ram[:16])
 hexadecimal("belt", belt[:16])

@@ -1,18 +1,20 @@
--- A refusal comes only for its cause, of every call; and when a run is accepted.
+-- A refusal comes only for its cause, of every call; and when a run, a reading and a writing are accepted.
 use mathlib.Core.Path.{_≡_, refl, sym, subst, _∙_}
 use mathlib.Core.Bool.{Bool, true, false, cond}
 use mathlib.Core.List.{List, [], _∷_}
+use mathlib.Core.Logic.{_⊎_, inl, inr}
 use Prim.Native.Nat.{ℕ}
 use lib.Dec.{eqb}
 use lib.ListN.{length}
 use borrow.Author.Tests.{eqb-true, eq-eqb}
 use Rattle.words.specs.Logic.{Exactly}
 use Rattle.words.proofs.Every.{_&_}
+use Rattle.words.proofs.Conjunction.{either-means}
+use Rattle.timer.specs.declared.Timer.{Timer}
 use Rattle.memory.specs.Map.{Memory}
 use Rattle.processor.specs.declared.Processor.{Processor}
-use Rattle.processor.specs.State.{fit}
-use Rattle.record_layout.specs.Record.{kindsInPlace, processorOf}
-use Rattle.machine.specs.Machine.{Machine}
+use Rattle.record_layout.specs.Record.{kindsInPlace, processorOf, timerOf}
+use Rattle.machine.specs.Machine.{Machine, fitWith}
 use Rattle.step.specs.Step.{Stepped}
 use Rattle.refusals.specs.Refusal.{runTests, runRefusal}
 use Rattle.refusals.specs.Cause.{OnlyForItsCause, RamLength, RomLength, BeltLength, Steps}
@@ -21,6 +23,7 @@ use Rattle.refusals.proofs.Cause.{only-for-its-cause}
 use Rattle.run_loop.specs.Run.{Request, Outcome, counted, countedAll, runFrom, runOf}
 use Rattle.run_calls.specs.Runs.{callTests, callRefusal, machineIn, recorded, called, callOf}
 use Rattle.record.specs.Calls.{recordTests, readRefusal, writeTests, writeRefusal}
+use Rattle.record.proofs.Answers.{readableLength, readable-old, readable-whole}
 use Rattle.record_calls.specs.Records.{resetTests, resetRefusal, copyTests, copyRefusal}
 use Rattle.record_calls.specs.Views.{callViewTests, callViewRefusal, callViewOf}
 use Rattle.page_view.specs.View.{viewTests, viewRefusal, viewOf}
@@ -66,9 +69,9 @@ read : (s : List ℕ) → OnlyForItsCause (4 ∷ 5 ∷ 6 ∷ []) (recordTests s)
 unfolding readRefusal
 read s = only-for-its-cause (recordTests s) refl
 
-write : (p : Processor) (s : List ℕ) → OnlyForItsCause (4 ∷ 6 ∷ []) (writeTests p s) (writeRefusal p s)
+write : (p : Processor) (t : Timer) (s : List ℕ) → OnlyForItsCause (4 ∷ 6 ∷ []) (writeTests p t s) (writeRefusal p t s)
 unfolding writeRefusal
-write p s = only-for-its-cause (writeTests p s) refl
+write p t s = only-for-its-cause (writeTests p t s) refl
 
 exported-reset : (buffer : List ℕ) → OnlyForItsCause (4 ∷ []) (resetTests buffer) (resetRefusal buffer)
 unfolding resetRefusal
@@ -109,7 +112,7 @@ only-for-causes =
 
 accepted-run : (q : Request) (m : Machine) → Exactly (runOf q m .answer .refusal ≡ 0) (
     RamLength (length (m .memory .ram)) × RomLength (length (m .memory .rom)) × BeltLength (length (m .memory .belt))
-    × (fit (m .processor) ≡ true) × Steps (q .wanted))
+    × (fitWith (m .processor) (m .timer) ≡ true) × Steps (q .wanted))
 accepted-run q m = (
   (λ e.
       let t = run q m .accepted .0 e in
@@ -121,7 +124,7 @@ accepted-run q m = (
 
 accepted-exported : (q : Request) (s : List ℕ) (m : Memory) → Exactly (callOf q s m .answer .refusal ≡ 0) (
     RamLength (length (m .ram)) × RomLength (length (m .rom)) × BeltLength (length (m .belt))
-    × (length s ≡ 414) × (kindsInPlace s ≡ true) × (fit (processorOf s) ≡ true) × Steps (q .wanted))
+    × (length s ≡ 424) × (kindsInPlace s ≡ true) × (fitWith (processorOf s) (timerOf s) ≡ true) × Steps (q .wanted))
 accepted-exported q s m = (
   (λ e.
       let t = exported-run q s m .accepted .0 e in
@@ -140,5 +143,28 @@ accepted-exported q s m = (
       & steps-accepted _ .1 (h .6) & tt)),
 )
 
+-- ---- an accepted record
+
+either-of : (s : List ℕ) → (eqb (length s) 414 ≡ true) ⊎ (eqb (length s) 424 ≡ true) → (length s ≡ 414) ⊎ (length s ≡ 424)
+either-of s (inl f) = inl (eqb-true _ _ f)
+either-of s (inr f) = inr (eqb-true _ _ f)
+
+either-length : (s : List ℕ) → (length s ≡ 414) ⊎ (length s ≡ 424) → readableLength s ≡ true
+either-length s (inl e) = readable-old s e
+either-length s (inr e) = readable-whole s e
+
+accepted-read : (s : List ℕ) → Exactly (readRefusal s ≡ 0) (
+    ((length s ≡ 414) ⊎ (length s ≡ 424)) × (kindsInPlace s ≡ true) × (fitWith (processorOf s) (timerOf s) ≡ true))
+accepted-read s = (
+  (λ e. let t = read s .accepted .0 e in (either-of s (either-means (eqb (length s) 414) (eqb (length s) 424) (t .0)), t .1 .0, t .1 .1 .0)),
+  (λ h. read s .accepted .1 (either-length s (h .0) & h .1 & h .2 & tt)),
+)
+
+accepted-write : (p : Processor) (t : Timer) (s : List ℕ) → Exactly (writeRefusal p t s ≡ 0) ((length s ≡ 424) × (fitWith p t ≡ true))
+accepted-write p t s = (
+  (λ e. let u = write p t s .accepted .0 e in (eqb-true _ _ (u .0), u .1 .0)),
+  (λ h. write p t s .accepted .1 (eq-eqb _ _ (h .0) & h .1 & tt)),
+)
+
 pub accepted : Accepted
-accepted = record { run = accepted-run; exported-run = accepted-exported }
+accepted = record { run = accepted-run; exported-run = accepted-exported; read = accepted-read; write = accepted-write }

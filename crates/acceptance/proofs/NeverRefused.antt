@@ -1,28 +1,36 @@
--- A faulting program is never refused: a run keeps the lengths of the lent memory and a fit processor, and a later run asks for no more.
+-- A faulting program is never refused: a run keeps the lengths of the lent memory, a fit processor and a fit timer, and a later run asks for no
+-- more.
 use mathlib.Core.Path.{_≡_, refl, ap, sym, _∙_}
 use mathlib.Core.Bool.{true}
 use mathlib.Core.List.{List}
 use Prim.Native.Nat.{ℕ, _≤_, _<_}
 use native.Mathlib.Omega.{arith}
 use lib.ListN.{length, getD, List·getD-eq-default}
-use borrow.Author.Tests.{le-leb}
+use borrow.Author.Tests.{le-leb, leb-true}
+use lib.Dec.{leb}
 use Rattle.words.proofs.Cases.{below-or-not}
 use Rattle.words.proofs.Every.{_&_}
+use Rattle.words.proofs.Conjunction.{true-both}
+use Rattle.timer.specs.Timer.{timerFit}
+use Rattle.timer.specs.declared.Timer.{Timer}
 use Rattle.memory.specs.Map.{Memory}
 use Rattle.memory.proofs.OwnBytes.{SameLengths}
 use Rattle.memory.proofs.StoreLaws.{store-lengths}
+use Rattle.processor.specs.declared.Processor.{Processor}
+use Rattle.processor.specs.State.{fit}
 use Rattle.processor.proofs.FitLaws.{Fit, fit-means, means-fit}
 use Rattle.instructions.specs.Action.{Action, Write, Store, System, Exception}
 use Rattle.memory.specs.Access.{storeWidth}
-use Rattle.machine.specs.Machine.{Machine, Bytes, Representable}
+use Rattle.machine.specs.Machine.{Machine, Bytes, Representable, fitWith}
 use Rattle.machine.proofs.Representing.{representable}
 use Rattle.step.specs.Step.{look, memoryDone, stepOf}
-use Rattle.step.proofs.StepFit.{step-fit}
+use Rattle.step.proofs.StepFit.{step-fit, step-timer-fits}
 use Rattle.refusals.specs.Refusal.{ramAccepted, romAccepted, beltAccepted, runTests}
 use Rattle.refusals.specs.Cause.{AllPass}
 use Rattle.run_loop.specs.Run.{Request, Outcome, runFrom, runOf}
 use Rattle.run_loop.proofs.Kept.{from-keeps, run-keeps, run-representable, call-representable}
-use Rattle.record.proofs.Held.{held-value}
+use Rattle.record.proofs.Held.{held-value, held-timer}
+use Rattle.record.proofs.Fitness.{both-fit}
 use Rattle.record_layout.specs.Record.{recordOf}
 use Rattle.run_calls.specs.Runs.{callTests, machineIn, recorded, Called, callRefusal, callOf}
 use Rattle.isolation.specs.Trace.{Call, callOutcome}
@@ -30,7 +38,7 @@ use Rattle.isolation.proofs.Entries.{outcome-is, refusal-is}
 use Rattle.acceptance.specs.Claim.{NeverRefused}
 use Rattle.acceptance.proofs.Causes.{run, run-answers, call-answers, exported-run}
 
--- ---- what every step keeps: the lengths of the lent memory, and a fit processor
+-- ---- what every step keeps: the lengths of the lent memory, a fit processor and a fit timer
 
 done-lengths : (m : Memory) (a : Action) → SameLengths (memoryDone m a) m
 done-lengths m (Write n v next) = (refl, refl, refl)
@@ -40,13 +48,22 @@ done-lengths m (Exception eid address) = (refl, refl, refl)
 
 -- a machine as a run leaves it
 abbrev Sound : Memory → Machine → Type 0
-Sound lent m = SameLengths (m .memory) lent × Fit (m .processor)
+Sound lent m = SameLengths (m .memory) lent × Fit (m .processor) × (m .timer .control ≤ 3)
 
 step-sound : (lent : Memory) (m : Machine) (lines : ℕ) → Sound lent m → Sound lent (stepOf m lines .machine)
 unfolding stepOf
 step-sound lent m lines s =
     let same = done-lengths (m .memory) (look m lines) in
-    ((same .0 ∙ s .0 .0, same .1 ∙ s .0 .1, same .2 ∙ s .0 .2), step-fit m lines (s .1))
+    ((same .0 ∙ s .0 .0, same .1 ∙ s .0 .1, same .2 ∙ s .0 .2), step-fit m lines (s .1), step-timer-fits m lines (s .2))
+
+-- fitness, as the tests ask it and as a step keeps it
+fits : (p : Processor) (t : Timer) → Fit p → t .control ≤ 3 → fitWith p t ≡ true
+unfolding fitWith timerFit
+fits p t f h = true-both (fit p) (leb (t .control) 3) (means-fit p f) (le-leb (t .control) 3 h)
+
+fits-mean : (p : Processor) (t : Timer) → fitWith p t ≡ true → Fit p × (t .control ≤ 3)
+unfolding timerFit
+fits-mean p t e = let both = both-fit p t e in (fit-means p (both .0), leb-true (t .control) 3 (both .1))
 
 -- ---- the tests of the next run
 
@@ -55,7 +72,7 @@ module _ (lent : Memory) (ram : ramAccepted (length (lent .ram)) ≡ true) (rom 
   passes : (m : Machine) (wanted : ℕ) → Sound lent m → wanted ≤ 1000000 → AllPass (runTests m wanted)
   passes m wanted s h =
       (ap ramAccepted (s .0 .0) ∙ ram) & (ap romAccepted (s .0 .1) ∙ rom) & (ap beltAccepted (s .0 .2) ∙ belt)
-      & means-fit (m .processor) (s .1) & le-leb wanted 1000000 h & tt
+      & fits (m .processor) (m .timer) (s .1) (s .2) & le-leb wanted 1000000 h & tt
 
 module _ (q : Request) (m : Machine) (accepted : runOf q m .answer .refusal ≡ 0) (later : Request) (most : later .wanted ≤ 1000000) where
   passed : AllPass (runTests m (q .wanted))
@@ -63,7 +80,8 @@ module _ (q : Request) (m : Machine) (accepted : runOf q m .answer .refusal ≡ 
 
   sound : Sound (m .memory) (runOf q m .machine)
   sound =
-      run-keeps (Sound (m .memory)) (step-sound (m .memory)) q m ((refl, refl, refl), fit-means (m .processor) (passed .1 .1 .1 .0))
+      let start = fits-mean (m .processor) (m .timer) (passed .1 .1 .1 .0) in
+      run-keeps (Sound (m .memory)) (step-sound (m .memory)) q m ((refl, refl, refl), start .0, start .1)
 
   by-value : runOf later (runOf q m .machine) .answer .refusal ≡ 0
   by-value =
@@ -88,7 +106,7 @@ pub held-representable : (s : List ℕ) (m : Memory) → ((j : ℕ) → getD s j
 held-representable s m h ram rom belt =
     let v = held-value s h in
     representable (v .arrays .registers, λ i k. v .registers i) (v .pc) (v .psw) (v .index) (v .entryhigh) (v .entrylow) (v .badaddress)
-    (v .arrays .highs, λ i k. v .highs i) (v .arrays .lows, λ i k. v .lows i) (v .replacement) ram rom belt
+    (v .arrays .highs, λ i k. v .highs i) (v .arrays .lows, λ i k. v .lows i) (v .replacement) (held-timer s h) ram rom belt
 
 -- ---- exported: of any bytes that were accepted as a machine's record, what the call left in the buffer and in the lent memory
 
@@ -115,8 +133,8 @@ module _ (q : Request) (s : List ℕ) (m : Memory) (bytes : Bytes s) (ram : Byte
     left : Sound m (end .machine)
     unfolding end
     left =
-        from-keeps (Sound m) (step-sound m) q (q .wanted) 0 (machineIn s m)
-        ((refl, refl, refl), fit-means (machineIn s m .processor) (all .1 .1 .1 .1 .1 .0))
+        let begun = fits-mean (machineIn s m .processor) (machineIn s m .timer) (all .1 .1 .1 .1 .1 .0) in
+        from-keeps (Sound m) (step-sound m) q (q .wanted) 0 (machineIn s m) ((refl, refl, refl), begun .0, begun .1)
 
     types : Representable (end .machine)
     unfolding end
@@ -125,7 +143,7 @@ module _ (q : Request) (s : List ℕ) (m : Memory) (bytes : Bytes s) (ram : Byte
     exported : callOf later (callOf q s m .buffer) (callOf q s m .memory) .answer .refusal ≡ 0
     exported =
         ap (λ (c : Called). callOf later (c .buffer) (c .memory) .answer .refusal) made
-        ∙ call-answers later (recordOf (end .machine .processor)) (end .machine .memory)
+        ∙ call-answers later (recordOf (end .machine .processor) (end .machine .timer)) (end .machine .memory)
         ∙ refusal-is (end .machine) types (later .wanted)
         ∙ sym (run-answers later (end .machine))
         ∙ run later (end .machine) .accepted .1 (passes m (all .0) (all .1 .0) (all .1 .1 .0) (end .machine) (later .wanted) left most)

@@ -2,18 +2,19 @@
 use mathlib.Core.Path.{_≡_}
 use mathlib.Core.Bool.{true}
 use mathlib.Core.List.{List, [], _∷_}
+use mathlib.Core.Logic.{_⊎_}
 use Prim.Native.Nat.{ℕ}
 use lib.ListN.{length}
 use Rattle.words.specs.Logic.{Exactly}
 use Rattle.memory.specs.Map.{Memory}
 use Rattle.processor.specs.declared.Processor.{Processor}
-use Rattle.processor.specs.State.{fit}
-use Rattle.machine.specs.Machine.{Machine, Bytes, Representable}
+use Rattle.timer.specs.declared.Timer.{Timer}
+use Rattle.machine.specs.Machine.{Machine, Bytes, Representable, fitWith}
 use Rattle.refusals.specs.Refusal.{runTests}
 use Rattle.refusals.specs.Cause.{OnlyForItsCause, RamLength, RomLength, BeltLength, Steps}
 use Rattle.run_loop.specs.Run.{Request, runOf}
 use Rattle.run_calls.specs.Runs.{callTests, callOf}
-use Rattle.record_layout.specs.Record.{kindsInPlace, processorOf}
+use Rattle.record_layout.specs.Record.{kindsInPlace, processorOf, timerOf}
 use Rattle.record.specs.Calls.{recordTests, readRefusal, writeTests, writeRefusal}
 use Rattle.record_calls.specs.Records.{resetTests, resetRefusal, copyTests, copyRefusal}
 use Rattle.record_calls.specs.Views.{callViewTests, callViewOf}
@@ -26,7 +27,7 @@ pub record OnlyForCauses : Type 0 where
   pub exported-run : (q : Request) (s : List ℕ) (m : Memory)
       → OnlyForItsCause (1 ∷ 2 ∷ 3 ∷ 4 ∷ 5 ∷ 6 ∷ 7 ∷ []) (callTests s m (q .wanted)) (callOf q s m .answer .refusal)
   pub read : (s : List ℕ) → OnlyForItsCause (4 ∷ 5 ∷ 6 ∷ []) (recordTests s) (readRefusal s)
-  pub write : (p : Processor) (s : List ℕ) → OnlyForItsCause (4 ∷ 6 ∷ []) (writeTests p s) (writeRefusal p s)
+  pub write : (p : Processor) (t : Timer) (s : List ℕ) → OnlyForItsCause (4 ∷ 6 ∷ []) (writeTests p t s) (writeRefusal p t s)
   pub exported-reset : (buffer : List ℕ) → OnlyForItsCause (4 ∷ []) (resetTests buffer) (resetRefusal buffer)
   -- reading and writing, from one list of bytes to another
   pub exported-copy : (from buffer : List ℕ) → OnlyForItsCause (4 ∷ 4 ∷ 5 ∷ 6 ∷ []) (copyTests from buffer) (copyRefusal from buffer)
@@ -35,14 +36,18 @@ pub record OnlyForCauses : Type 0 where
   pub exported-view : (ram s : List ℕ) (page : ℕ)
       → OnlyForItsCause (1 ∷ 4 ∷ 5 ∷ 6 ∷ 8 ∷ []) (callViewTests ram s page) (callViewOf ram s page .refusal)
 
--- "Success is 0": when a run is accepted, in the words of the table
+-- "Success is 0": when a run, a reading and a writing are accepted, in the words of the table
 pub record Accepted : Type 0 where
   pub run : (q : Request) (m : Machine) → Exactly (runOf q m .answer .refusal ≡ 0) (
       RamLength (length (m .memory .ram)) × RomLength (length (m .memory .rom)) × BeltLength (length (m .memory .belt))
-      × (fit (m .processor) ≡ true) × Steps (q .wanted))
+      × (fitWith (m .processor) (m .timer) ≡ true) × Steps (q .wanted))
   pub exported-run : (q : Request) (s : List ℕ) (m : Memory) → Exactly (callOf q s m .answer .refusal ≡ 0) (
       RamLength (length (m .ram)) × RomLength (length (m .rom)) × BeltLength (length (m .belt))
-      × (length s ≡ 414) × (kindsInPlace s ≡ true) × (fit (processorOf s) ≡ true) × Steps (q .wanted))
+      × (length s ≡ 424) × (kindsInPlace s ≡ true) × (fitWith (processorOf s) (timerOf s) ≡ true) × Steps (q .wanted))
+  -- a record has either length (document 02, job 1)
+  pub read : (s : List ℕ) → Exactly (readRefusal s ≡ 0) (
+      ((length s ≡ 414) ⊎ (length s ≡ 424)) × (kindsInPlace s ≡ true) × (fitWith (processorOf s) (timerOf s) ≡ true))
+  pub write : (p : Processor) (t : Timer) (s : List ℕ) → Exactly (writeRefusal p t s ≡ 0) ((length s ≡ 424) × (fitWith p t ≡ true))
 
 -- "a faulting program .. is never refused": after an accepted run, every run of at most 1,000,000 steps on what it left is accepted
 pub record NeverRefused : Type 0 where

@@ -6,6 +6,7 @@ use Rattle.translation.specs.Translation.{translated, translationEid}
 use Rattle.translation.specs.declared.Translation.{Translation}
 use Rattle.translation.specs.declared.Translation.the-variants.{Physical}
 use Rattle.translation.proofs.Resolved.{IsFault, at-fault, at-number}
+use Rattle.timer.specs.declared.Timer.{Timer}
 use Rattle.memory.specs.Map.{Memory}
 use Rattle.memory.specs.Access.{loadOf, loadedEid, loadedValue}
 use Rattle.memory.specs.declared.Loaded.{Loaded}
@@ -15,19 +16,19 @@ use Rattle.access.specs.Reads.{answered, readThrough, readFrom, readEid,
 use Rattle.access.specs.declared.Read.{Read}
 use Rattle.access.specs.declared.Read.the-variants.{Fault}
 
-pub read-fault : (width : ℕ) (m : Memory) (t : Translation) → IsFault t → Fault (translationEid t) ≡ readThrough width m t
-read-fault width m t h = at-fault _ Fault t h
+pub read-fault : (width : ℕ) (timer : Timer) (m : Memory) (t : Translation) → IsFault t → Fault (translationEid t) ≡ readThrough width timer m t
+read-fault width timer m t h = at-fault _ Fault t h
 
 -- the two ways through a read
 module _ (width : ℕ) (s : Surroundings) (address : ℕ) {t : Translation}
     (e : t ≡ translated (s .psw) (s .highs) (s .lows) width false address) where
   pub to-a-fault : {eid : ℕ} → IsFault t → eid ≡ translationEid t → Fault eid ≡ readFrom width s address
   unfolding readFrom
-  to-a-fault h k = ap Fault k ∙ read-fault width (s .memory) t h ∙ ap (readThrough width (s .memory)) e
+  to-a-fault h k = ap Fault k ∙ read-fault width (s .timer) (s .memory) t h ∙ ap (readThrough width (s .timer) (s .memory)) e
 
-  pub to-a-load : {x : ℕ} {l : Loaded} {r : Read} → t ≡ Physical x → l ≡ loadOf width (s .memory) x → r ≡ answered l → r ≡ readFrom width s address
+  pub to-a-load : {x : ℕ} {l : Loaded} {r : Read} → t ≡ Physical x → l ≡ loadOf width (s .timer) (s .memory) x → r ≡ answered l → r ≡ readFrom width s address
   unfolding readFrom
-  to-a-load f g h = h ∙ ap answered g ∙ sym (ap (readThrough width (s .memory)) (sym e ∙ f))
+  to-a-load f g h = h ∙ ap answered g ∙ sym (ap (readThrough width (s .timer) (s .memory)) (sym e ∙ f))
 
 -- ---- the numbers of a read: those of its translation's fault, or of the load at the physical address
 
@@ -44,9 +45,9 @@ module _ (width : ℕ) (s : Surroundings) (address : ℕ) where
   read-names-the-fault h = ap readEid (sym (at-number _ Fault place h))
 
   pub read-as-the-load : (x : ℕ) → place ≡ Physical x
-      → (readEid (readFrom width s address) ≡ loadedEid (loadOf width (s .memory) x))
-      × (readValue (readFrom width s address) ≡ loadedValue (loadOf width (s .memory) x))
+      → (readEid (readFrom width s address) ≡ loadedEid (loadOf width (s .timer) (s .memory) x))
+      × (readValue (readFrom width s address) ≡ loadedValue (loadOf width (s .timer) (s .memory) x))
   read-as-the-load x e =
-      let same : answered (loadOf width (s .memory) x) ≡ readFrom width s address = to-a-load width s address refl e refl refl in
-      let numbers = answered-numbers (loadOf width (s .memory) x) in
+      let same : answered (loadOf width (s .timer) (s .memory) x) ≡ readFrom width s address = to-a-load width s address refl e refl refl in
+      let numbers = answered-numbers (loadOf width (s .timer) (s .memory) x) in
       (ap readEid (sym same) ∙ numbers .0, ap readValue (sym same) ∙ numbers .1)

@@ -4,6 +4,7 @@ use Prim.Native.Nat.{ℕ}
 use Rattle.words.specs.Identifiers.{noException}
 use Rattle.translation.specs.Translation.{translated, resolved}
 use Rattle.translation.specs.declared.Translation.{Translation}
+use Rattle.timer.specs.declared.Timer.{Timer}
 use Rattle.memory.specs.Map.{Memory}
 use Rattle.memory.specs.Access.{loadOf, loadedEid}
 use Rattle.memory.specs.declared.Loaded.{Loaded}
@@ -18,12 +19,12 @@ abbrev pub answered : Loaded → Read
 answered (loaded.Value v) = Value v
 answered loaded.Timeout = Fault (loadedEid loaded.Timeout)
 
-abbrev pub readThrough : ℕ → Memory → Translation → Read
-readThrough width m t = resolved (λ address. answered (loadOf width m address)) Fault t
+abbrev pub readThrough : ℕ → Timer → Memory → Translation → Read
+readThrough width timer m t = resolved (λ address. answered (loadOf width timer m address)) Fault t
 
 -- the byte, half-word or word at a virtual address
 unfoldable pub readFrom : ℕ → Surroundings → ℕ → Read
-readFrom width s address = readThrough width (s .memory) (translated (s .psw) (s .highs) (s .lows) width false address)
+readFrom width s address = readThrough width (s .timer) (s .memory) (translated (s .psw) (s .highs) (s .lows) width false address)
 
 -- the numbers of an answer: the exception that it names, or `noException`; and what was read, 0 where it faults
 abbrev pub readEid : Read → ℕ

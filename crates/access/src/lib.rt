@@ -4,6 +4,7 @@ use memory::Loaded;
 use memory::Place;
 use processor::Processor;
 use processor::Words;
+use timer::Timer;
 use translation::Translation;
 use translation::Width;
 ghost use mathlib.Core.Path.{_≡_};
@@ -34,54 +35,57 @@ pub fn read_byte<'a>(
     psw: u32,
     highs: &'a Words,
     lows: &'a Words,
+    timer: Timer,
     ram: &[u8],
     rom: &[u8],
     belt: &[u8],
     address: u32,
 ) -> Read
-    ensures { λ r. ⌜ r ≡ readFrom 1 (around psw highs lows ram rom belt) address ⌝ }
+    ensures { λ r. ⌜ r ≡ readFrom 1 (around psw highs lows timer ram rom belt) address ⌝ }
 {
     let place = translation::translate(psw, highs, lows, Width::Byte, false, address);
     let Translation::Physical(physical) = place else {
         return Read::Fault(translation::eid_of(place));
     };
-    brought(load_store::load_byte(ram, rom, belt, physical))
+    brought(load_store::load_byte(timer, ram, rom, belt, physical))
 }
 
 pub fn read_half<'a>(
     psw: u32,
     highs: &'a Words,
     lows: &'a Words,
+    timer: Timer,
     ram: &[u8],
     rom: &[u8],
     belt: &[u8],
     address: u32,
 ) -> Read
-    ensures { λ r. ⌜ r ≡ readFrom 2 (around psw highs lows ram rom belt) address ⌝ }
+    ensures { λ r. ⌜ r ≡ readFrom 2 (around psw highs lows timer ram rom belt) address ⌝ }
 {
     let place = translation::translate(psw, highs, lows, Width::Half, false, address);
     let Translation::Physical(physical) = place else {
         return Read::Fault(translation::eid_of(place));
     };
-    brought(load_store::load_half(ram, rom, belt, physical))
+    brought(load_store::load_half(timer, ram, rom, belt, physical))
 }
 
 pub fn read_word<'a>(
     psw: u32,
     highs: &'a Words,
     lows: &'a Words,
+    timer: Timer,
     ram: &[u8],
     rom: &[u8],
     belt: &[u8],
     address: u32,
 ) -> Read
-    ensures { λ r. ⌜ r ≡ readFrom 4 (around psw highs lows ram rom belt) address ⌝ }
+    ensures { λ r. ⌜ r ≡ readFrom 4 (around psw highs lows timer ram rom belt) address ⌝ }
 {
     let place = translation::translate(psw, highs, lows, Width::Word, false, address);
     let Translation::Physical(physical) = place else {
         return Read::Fault(translation::eid_of(place));
     };
-    brought(load_store::load_word(ram, rom, belt, physical))
+    brought(load_store::load_word(timer, ram, rom, belt, physical))
 }
 
 // The instruction word at the PC, whose page has the index `i`.
@@ -90,19 +94,20 @@ pub fn fetch<'a>(
     highs: &'a Words,
     lows: &'a Words,
     i: usize,
+    timer: Timer,
     ram: &[u8],
     rom: &[u8],
     belt: &[u8],
     pc: u32,
 ) -> Read
     requires { ⌜ Serves (now highs) i pc ⌝ }
-    ensures { λ r. ⌜ r ≡ readFrom 4 (around psw highs lows ram rom belt) pc ⌝ }
+    ensures { λ r. ⌜ r ≡ readFrom 4 (around psw highs lows timer ram rom belt) pc ⌝ }
 {
     let place = translation::translate_at(psw, highs, lows, i, Width::Word, false, pc);
     let Translation::Physical(physical) = place else {
         return Read::Fault(translation::eid_of(place));
     };
-    brought(load_store::load_word(ram, rom, belt, physical))
+    brought(load_store::load_word(timer, ram, rom, belt, physical))
 }
 
 fn bytes_of(width: Width) -> u32
@@ -120,6 +125,7 @@ pub fn store<'a>(
     psw: u32,
     highs: &'a Words,
     lows: &'a Words,
+    timer: Timer,
     ram: &[u8],
     rom: &[u8],
     belt: &[u8],
@@ -127,7 +133,7 @@ pub fn store<'a>(
     value: u32,
     address: u32,
 ) -> Coded
-    ensures { λ r. ⌜ actionOf r ≡ storeTo (bytesOf width) (around psw highs lows ram rom belt) value address ⌝ }
+    ensures { λ r. ⌜ actionOf r ≡ storeTo (bytesOf width) (around psw highs lows timer ram rom belt) value address ⌝ }
 {
     let bytes = bytes_of(width);
     let place = translation::translate(psw, highs, lows, width, true, address);
@@ -139,6 +145,7 @@ pub fn store<'a>(
         Place::Ram(_) => Coded::Store(bytes, physical, value),
         Place::Rom(_) => Coded::Store(bytes, physical, value),
         Place::Belt(_) => Coded::Store(bytes, physical, value),
+        Place::Timer(_) => Coded::Store(bytes, physical, value),
         Place::Nothing => Coded::Exception(Processor::BUS_TIMEOUT, address, 0),
     }
 }

@@ -5,13 +5,10 @@ use Rattle.machine.specs.Machine.{Machine}
 use Rattle.step.specs.Step.{stepOf}
 use Rattle.belt_text.specs.Line.{lineOf}
 
--- a step with lines 0: the machine after it, and the EID that it accepted, or 32
-abbrev pub stepped : Machine → Machine
-stepped m = stepOf m 0 .machine
+-- the machine after a step with lines 0
+abbrev pub following : Machine → Machine
+following m = stepOf m 0 .machine
 
-abbrev pub steppedEid : Machine → ℕ
-steppedEid m = stepOf m 0 .event .eid
-
--- its line has the PC after it
+-- its line has the PC after it, and the EID that it accepted, or 32
 unfoldable pub stepLine : ℕ → Machine → List ℕ
-stepLine step m = lineOf step (stepped m .processor .pc) (steppedEid m)
+stepLine step m = lineOf step (following m .processor .pc) (stepOf m 0 .event .eid)

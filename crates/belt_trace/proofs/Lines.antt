@@ -7,10 +7,12 @@ use lib.Seq.{paste, length-paste-head, take-at, drop-at, take-all, drop-drop}
 use native.Mathlib.Omega.{arith}
 use borrow.Author.Tests.{lt-ltb, le-ltb}
 use Rattle.processor.specs.State.{atReset}
+use Rattle.timer.specs.Timer.{timerAtReset}
+use Rattle.timer.specs.declared.Timer.{Timer}
 use Rattle.processor.specs.declared.Processor.{Processor}
 use Rattle.machine.specs.Machine.{Machine, machine}
 use Rattle.belt_text.specs.Text.{shortInput}
-use Rattle.belt_step.specs.Line.{stepped, stepLine}
+use Rattle.belt_step.specs.Line.{following, stepLine}
 use Rattle.belt_step.proofs.LineLaws.{line-length}
 use Rattle.belt_trace.specs.Trace.{linesFrom, atStart, beltText, answerOf}
 
@@ -28,10 +30,10 @@ pub record Tracing (rom s : List ℕ) (m : Machine) (t : List ℕ) (step at : �
   pub lines : beltText rom ≡ take at t ++ linesFrom (5 - step) step m
   pub rest : drop at t ≡ drop at s
 
-pub started : (rom s : List ℕ) {p : Processor} → p ≡ atReset → 56 ≤ length s
-    → Tracing rom s (machine p (replicate 4096 0) rom (replicate 1024 0)) s 1 0
+pub started : (rom s : List ℕ) {p : Processor} {timer : Timer} → p ≡ atReset → timer ≡ timerAtReset → 56 ≤ length s
+    → Tracing rom s (machine p timer (replicate 4096 0) rom (replicate 1024 0)) s 1 0
 unfolding beltText atStart
-started rom s e h =
+started rom s e f h =
     record {
       first = omega arith;
       last = omega arith;
@@ -40,7 +42,7 @@ started rom s e h =
       kept = refl;
       ram = refl;
       belt = refl;
-      lines = rw e;
+      lines = rw (e, f);
       rest = refl;
     }
 
@@ -49,7 +51,7 @@ module _ {rom s : List ℕ} {m : Machine} {t : List ℕ} {step at : ℕ} (so : T
   fits h = omega (arith, so .place, so .room, so .kept)
 
   -- the text of a step more
-  module _ {n : Machine} {u : List ℕ} (h : step ≤ 4) (e : n ≡ stepped m) (f : u ≡ paste t at (stepLine step m) 14) where
+  module _ {n : Machine} {u : List ℕ} (h : step ≤ 4) (e : n ≡ following m) (f : u ≡ paste t at (stepLine step m) 14) where
     line : take 14 (stepLine step m) ≡ stepLine step m
     line = take-all 14 (stepLine step m) (omega (arith, line-length step m))
 

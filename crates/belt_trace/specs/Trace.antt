@@ -5,18 +5,19 @@ use Prim.Native.Nat.{ℕ, zero, suc, _+_}
 use lib.Dec.{ltb}
 use lib.ListN.{length, take, replicate}
 use Rattle.processor.specs.State.{atReset}
+use Rattle.timer.specs.Timer.{timerAtReset}
 use Rattle.machine.specs.Machine.{Machine, machine}
 use Rattle.belt_text.specs.Text.{shortInput}
-use Rattle.belt_step.specs.Line.{stepped, stepLine}
+use Rattle.belt_step.specs.Line.{following, stepLine}
 
 -- the lines of n steps, the first of them with the given number
 unfoldable pub linesFrom : ℕ → ℕ → Machine → List ℕ
 linesFrom zero step m = []
-linesFrom (suc n) step m = stepLine step m ++ linesFrom n (step + 1) (stepped m)
+linesFrom (suc n) step m = stepLine step m ++ linesFrom n (step + 1) (following m)
 
 -- RAM of 4,096 bytes and a belt of 1,024, all zero
 unfoldable pub atStart : List ℕ → Machine
-atStart rom = machine atReset (replicate 4096 0) rom (replicate 1024 0)
+atStart rom = machine atReset timerAtReset (replicate 4096 0) rom (replicate 1024 0)
 
 -- four lines, numbered from 1
 unfoldable pub beltText : List ℕ → List ℕ

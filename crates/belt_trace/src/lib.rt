@@ -1,5 +1,6 @@
 // The text of four steps from reset, a line for each, and the answer to an input that may be short.
 use processor::Processor;
+use timer::Timer;
 ghost use mathlib.Core.Path.{_≡_};
 ghost use Rattle.belt_text.specs.Text.{placed, countOf};
 ghost use Rattle.belt_trace.specs.Trace.{beltText, answerOf};
@@ -15,10 +16,13 @@ pub fn trace(rom: &[u8], text: &mut [u8]) -> usize
     let mut ram = [0u8; 4096];
     let mut belt = [0u8; 1024];
     let mut p = Processor::reset();
+    let mut timer = Timer::reset();
     let mut step = 1;
     let mut at = 0;
     while step <= 4 {
-        p = belt_step::advance(p, &mut ram, rom, &mut belt, step, text, at);
+        let stepped = belt_step::advance(p, timer, &mut ram, rom, &mut belt, step, text, at);
+        p = stepped.processor;
+        timer = stepped.timer;
         step += 1;
         at += 14;
     }

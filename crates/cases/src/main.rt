@@ -1,16 +1,24 @@
-// Document 01's cases that are run, a line for each: lengths, steps, records, page views, each refusal, and their order.
+// Document 01's cases that are run, a line for each: lengths, steps, records, page views, each refusal, and their order; and the timer's of
+// document 02.
+mod lengths;
+mod reads;
 mod records;
 mod runs;
+mod states;
+mod steps;
 mod text;
+mod timers;
 mod views;
+mod writes;
 
 fn main() {
-    runs::print_steps();
-    runs::print_lengths(false);
-    runs::print_lengths(true);
-    runs::print_machines();
-    runs::print_order();
-    records::print_reads();
-    records::print_writes();
+    steps::print_steps();
+    lengths::print_lengths(false);
+    lengths::print_lengths(true);
+    states::print_machines();
+    timers::print_timers();
+    steps::print_order();
+    reads::print_reads();
+    writes::print_writes();
     views::print_views();
 }

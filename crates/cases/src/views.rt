@@ -6,7 +6,7 @@ use processor::Processor;
 ghost use Prim.Native.Nat.{_≤_};
 
 // A page view from RAM of the given length. The replacement index is the reset machine's, 4, or 3, which is not fit.
-pub fn print_view(name: &[u8], replacement: u32, ram: usize, page: u64)
+fn print_view(name: &[u8], replacement: u32, ram: usize, page: u64)
     requires { ⌜ ram ≤ 8192 ⌝ }
 {
     let bytes = [runs::FILL; 8192];

@@ -2,6 +2,7 @@
 use mathlib.Core.Bool.{true}
 use Prim.Native.Nat.{ℕ, _≤_}
 use native.Mathlib.Omega.{arith}
+use Rattle.timer.specs.declared.Timer.{Timer}
 use Rattle.memory.specs.Map.{Memory}
 use Rattle.memory.specs.Access.{loadOf, storeAnswer}
 use Rattle.memory.specs.declared.Loaded.{Loaded}
@@ -35,8 +36,8 @@ answered-named : (l : Loaded) → NamedRead (answered l)
 answered-named (loaded.Value v) = tt
 answered-named loaded.Timeout = omega arith
 
-pub read-named : (width : ℕ) (m : Memory) (t : Translation) → NamedRead (readThrough width m t)
-read-named width m t = walk _ Fault NamedRead t (λ a e. answered-named (loadOf width m a)) (λ eid low high. high)
+pub read-named : (width : ℕ) (timer : Timer) (m : Memory) (t : Translation) → NamedRead (readThrough width timer m t)
+read-named width timer m t = walk _ Fault NamedRead t (λ a e. answered-named (loadOf width timer m a)) (λ eid low high. high)
 
 settled-named : (width physical value address : ℕ) (r : Stored) → Named (settled width physical value address r)
 settled-named width physical value address stored.Done = tt

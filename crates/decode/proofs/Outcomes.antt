@@ -12,7 +12,6 @@ use Rattle.sums.proofs.Sizes.{sum-lt, zero-16-lt, zero-8-lt, sign-16-lt, sign-8
 use Rattle.memory.specs.Access.{storeAnswer, storeWidth}
 use Rattle.memory.specs.declared.Stored.{Stored}
 use Rattle.memory.specs.declared.Stored.the-variants as stored
-use Rattle.memory.proofs.Bytewise.{Bytewise}
 use Rattle.status.specs.Psw.{userMode}
 use Rattle.translation.specs.Translation.{translated}
 use Rattle.translation.specs.declared.Translation.{Translation}
@@ -34,7 +33,7 @@ use Rattle.system.specs.System.{privileged, traps, systems}
 use Rattle.decode.specs.Table.{byPsw, executed}
 use Rattle.decode.proofs.Rows.{Always, executed-always}
 use Rattle.decode.proofs.Named.{Named, NamedRead, read-named, stores-named}
-use Rattle.decode.proofs.Small.{SmallSystem, Small, FitsRead, read-fits, stores-small}
+use Rattle.decode.proofs.Small.{SmallSystem, Small, FitsRead, Holds, read-fits, stores-small}
 
 -- a store of 1, 2 or 4 bytes to the physical address that the translation grants
 pub record Granted (s : Surroundings) (width physical : ℕ) : Type 0 where
@@ -45,7 +44,7 @@ pub record Granted (s : Surroundings) (width physical : ℕ) : Type 0 where
   pub granted : translated (s .psw) (s .highs) (s .lows) width true address ≡ Physical physical
 
 abbrev pub ComesTo : Surroundings → Operands → Action → Type 0
-ComesTo s o (Write n v next) = Bytewise (s .memory) → Words o → (v < 2 ^ 32) × (next < 2 ^ 32)
+ComesTo s o (Write n v next) = Holds s → Words o → (v < 2 ^ 32) × (next < 2 ^ 32)
 ComesTo s o (Store width physical v) = Granted s width physical
 ComesTo s o (System i) = (userMode (s .psw) ≡ false) × (Words o → SmallSystem i)
 ComesTo s o (Exception eid address) = (eid ≤ 25) × (Words o → address < 2 ^ 32)
@@ -96,7 +95,7 @@ systems-come =
 
 module _ (s : Surroundings) (o : Operands) where
   landed-comes : (width : ℕ) (extend : ℕ → ℕ) → ((v : ℕ) → v < 256 ^ width → extend v < 2 ^ 32)
-      → (r : Read) → NamedRead r → (Bytewise (s .memory) → FitsRead width r) → ComesTo s o (landed extend (fieldY (o .word)) (addressOf o) (o .next) r)
+      → (r : Read) → NamedRead r → (Holds s → FitsRead width r) → ComesTo s o (landed extend (fieldY (o .word)) (addressOf o) (o .next) r)
   landed-comes width extend e (Value v) named fits = λ b w. (e v (fits b), w .next)
   landed-comes width extend e (Fault eid) named fits = (named, λ w. sum-lt _ _)
 
@@ -132,7 +131,7 @@ loads : (width : ℕ) (extend : ℕ → ℕ) → ((v : ℕ) → v < 256 ^ width 
 unfolding load readFrom
 loads width extend e s o =
     landed-comes s o width extend e (readFrom width s (addressOf o))
-    (read-named width (s .memory) (translated (s .psw) (s .highs) (s .lows) width false (addressOf o))) (read-fits width s (addressOf o))
+    (read-named width (s .timer) (s .memory) (translated (s .psw) (s .highs) (s .lows) width false (addressOf o))) (read-fits width s (addressOf o))
 
 stores : (width blocks : ℕ) → blocks * width ≡ 4096 → storeWidth width ≡ width → Always ComesTo (store width)
 stores width blocks d own s o =
@@ -162,11 +161,11 @@ named s o (Exception eid address) h = h .0
 pub executed-named : (s : Surroundings) (o : Operands) → Named (executed s o)
 executed-named s o = named s o (executed s o) (executed-comes s o)
 
-small : (s : Surroundings) (o : Operands) → Bytewise (s .memory) → Words o → (a : Action) → ComesTo s o a → Small a
+small : (s : Surroundings) (o : Operands) → Holds s → Words o → (a : Action) → ComesTo s o a → Small a
 small s o b w (Write n v next) h = h b w
 small s o b w (Store width physical v) h = tt
 small s o b w (System i) h = h .1 w
 small s o b w (Exception eid address) h = h .1 w
 
-pub executed-small : (s : Surroundings) (o : Operands) → Bytewise (s .memory) → Words o → Small (executed s o)
+pub executed-small : (s : Surroundings) (o : Operands) → Holds s → Words o → Small (executed s o)
 executed-small s o b w = small s o b w (executed s o) (executed-comes s o)

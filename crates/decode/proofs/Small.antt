@@ -1,6 +1,8 @@
 -- Actions whose numbers are words; what a read and a store come to.
 use mathlib.Core.Bool.{true, false}
 use Prim.Native.Nat.{ℕ, _^_, _<_}
+use Rattle.timer.specs.Timer.{TimerWords}
+use Rattle.timer.specs.declared.Timer.{Timer}
 use Rattle.memory.specs.Map.{Memory}
 use Rattle.memory.specs.Access.{loadOf, storeAnswer}
 use Rattle.memory.specs.declared.Loaded.{Loaded}
@@ -44,13 +46,19 @@ answered-fits : (width : ℕ) (l : Loaded) → Fits width l → FitsRead width (
 answered-fits width (loaded.Value v) h = h
 answered-fits width loaded.Timeout h = tt
 
-through-fits : (width : ℕ) (m : Memory) → Bytewise m → (t : Translation) → FitsRead width (readThrough width m t)
-through-fits width m b t =
-    walk _ Fault (FitsRead width) t (λ a e. answered-fits width (loadOf width m a) (load-fits width m b a)) (λ eid low high. tt)
+through-fits : (width : ℕ) (timer : Timer) (m : Memory) → TimerWords timer → Bytewise m → (t : Translation)
+    → FitsRead width (readThrough width timer m t)
+through-fits width timer m words b t =
+    walk _ Fault (FitsRead width) t (λ a e. answered-fits width (loadOf width timer m a) (load-fits width timer words m b a)) (λ eid low high. tt)
 
-pub read-fits : (width : ℕ) (s : Surroundings) (address : ℕ) → Bytewise (s .memory) → FitsRead width (readFrom width s address)
+-- the memory holds bytes, and the timer words
+abbrev pub Holds : Surroundings → Type 0
+Holds s = Bytewise (s .memory) × TimerWords (s .timer)
+
+pub read-fits : (width : ℕ) (s : Surroundings) (address : ℕ) → Holds s → FitsRead width (readFrom width s address)
 unfolding readFrom
-read-fits width s address b = through-fits width (s .memory) b (translated (s .psw) (s .highs) (s .lows) width false address)
+read-fits width s address h =
+    through-fits width (s .timer) (s .memory) (h .1) (h .0) (translated (s .psw) (s .highs) (s .lows) width false address)
 
 settled-small : (width physical value address : ℕ) (r : Stored) → address < 2 ^ 32 → Small (settled width physical value address r)
 settled-small width physical value address stored.Done h = tt

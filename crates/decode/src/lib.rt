@@ -2,6 +2,7 @@
 use instructions::Coded;
 use processor::Processor;
 use processor::Words;
+use timer::Timer;
 ghost use mathlib.Core.Path.{_≡_};
 ghost use Rattle.instructions.specs.Operands.{operandsIn, around};
 ghost use Rattle.decode.specs.Table.{executed};
@@ -13,13 +14,14 @@ pub fn execute<'a>(
     psw: u32,
     highs: &'a Words,
     lows: &'a Words,
+    timer: Timer,
     ram: &[u8],
     rom: &[u8],
     belt: &[u8],
     word: u32,
     next: u32,
 ) -> Coded
-    ensures { λ r. ⌜ actionOf r ≡ executed (around psw highs lows ram rom belt) (operandsIn (now (registers .entry)) word next) ⌝ }
+    ensures { λ r. ⌜ actionOf r ≡ executed (around psw highs lows timer ram rom belt) (operandsIn (now (registers .entry)) word next) ⌝ }
 {
     let opcode = word / 0x400_0000;
     let xi = (word / 0x20_0000 % 32) as usize;
@@ -34,6 +36,7 @@ pub fn execute<'a>(
             psw,
             highs,
             lows,
+            timer,
             ram,
             rom,
             belt,

@@ -8,11 +8,13 @@ use denote.Ref.{now}
 use Rattle.words.specs.Logic.{both}
 use Rattle.memory.specs.Map.{Memory, memory}
 use Rattle.memory.specs.Lent.{Lent}
+use Rattle.timer.specs.Timer.{timerAtReset}
+use Rattle.timer.specs.declared.Timer.{Timer}
 use Rattle.processor.specs.declared.Processor.{Processor}
-use Rattle.processor.specs.State.{atReset, fit}
-use Rattle.machine.specs.Machine.{Machine, machine}
+use Rattle.processor.specs.State.{atReset}
+use Rattle.machine.specs.Machine.{Machine, machine, fitWith}
 use Rattle.record_layout.specs.Record.{recordOf}
-use Rattle.record.specs.Calls.{processorRead, bufferAfter}
+use Rattle.record.specs.Calls.{processorRead, timerRead, bufferAfter}
 use Rattle.bytes.specs.Same.{same}
 use Rattle.bytes.specs.Bytes.{copied, fits, patch}
 
@@ -33,9 +35,9 @@ expectedLeft bytes ram rom belt = expected (now (bytes .exit)) (now (ram .exit))
 
 -- ---- agreement
 
--- a processor has a record, and it is this one
-unfoldable pub recordAgrees : List ℕ → Processor → Bool
-recordAgrees bytes p = both (fit p) (same (recordOf p) bytes)
+-- a processor with its timer has a record, and it is this one
+unfoldable pub recordAgrees : List ℕ → Processor → Timer → Bool
+recordAgrees bytes p t = both (fitWith p t) (same (recordOf p t) bytes)
 
 unfoldable pub memoryAgrees : Memory → Memory → Bool
 memoryAgrees x m =
@@ -44,7 +46,7 @@ memoryAgrees x m =
 -- the expected EID, the record and all memory, against an EID and a machine
 unfoldable pub agrees : Expected → ℕ → Machine → ℕ → Bool
 agrees x wanted m eid =
-    both (eqb eid wanted) (both (recordAgrees (x .bytes) (m .processor)) (memoryAgrees (x .memory) (m .memory)))
+    both (eqb eid wanted) (both (recordAgrees (x .bytes) (m .processor) (m .timer)) (memoryAgrees (x .memory) (m .memory)))
 
 -- ---- commands
 
@@ -53,7 +55,8 @@ zeros s = replicate (length s) 0
 
 -- the reset machine, and memory of zeros
 unfoldable pub clear : Expected → Expected
-clear x = expected (bufferAfter atReset (x .bytes)) (zeros (x .memory .ram)) (zeros (x .memory .rom)) (zeros (x .memory .belt))
+clear x =
+    expected (bufferAfter atReset timerAtReset (x .bytes)) (zeros (x .memory .ram)) (zeros (x .memory .rom)) (zeros (x .memory .belt))
 
 -- a patch: 1 a word and 2 a byte of the record, 3 a word of RAM, 4 of ROM, 5 of the belt
 unfoldable pub patchFits : Expected → ℕ → ℕ → Bool
@@ -80,5 +83,5 @@ patched x kind at v =
 -- the model's machine made the expected one, in memory of the given lengths
 unfoldable pub startedIn : Memory → Expected → Machine
 startedIn m x =
-    machine (processorRead (x .bytes)) (copied (m .ram) (x .memory .ram)) (copied (m .rom) (x .memory .rom))
+    machine (processorRead (x .bytes)) (timerRead (x .bytes)) (copied (m .ram) (x .memory .ram)) (copied (m .rom) (x .memory .rom))
     (copied (m .belt) (x .memory .belt))

@@ -1,16 +1,15 @@
 // The expected machine, whose slices are named by an x: cleared and patched, and compared with the model's.
 use processor::Processor;
+use timer::Timer;
 ghost use mathlib.Core.Path.{_≡_};
 ghost use Rattle.machine.specs.Machine.{before};
 ghost use Rattle.expected.specs.Expected.{expectedLent, expectedLeft, clear, patchFits, patched, recordAgrees, agrees};
-
-const RECORD: usize = 414;
 
 // The reset machine, and memory of zeros.
 pub fn clear(xrecord: &mut [u8], xram: &mut [u8], xrom: &mut [u8], xbelt: &mut [u8])
     ensures { λ _. ⌜ expectedLeft xrecord xram xrom xbelt ≡ clear (expectedLent xrecord xram xrom xbelt) ⌝ }
 {
-    record::write(Processor::reset(), xrecord);
+    record::write(Processor::reset(), Timer::reset(), xrecord);
     bytes::clear(xram);
     bytes::clear(xrom);
     bytes::clear(xbelt);
@@ -39,17 +38,18 @@ pub fn patch(
     }
 }
 
-fn record_agrees(p: Processor, xrecord: &[u8]) -> bool
-    ensures { λ r. ⌜ r ≡ recordAgrees (now (xrecord .entry)) p ⌝ }
+fn record_agrees(p: Processor, timer: Timer, xrecord: &[u8]) -> bool
+    ensures { λ r. ⌜ r ≡ recordAgrees (now (xrecord .entry)) p timer ⌝ }
 {
-    let mut written = [0u8; RECORD];
-    let refusal = record::write(p, &mut written);
+    let mut written = [0u8; record_layout::LENGTH];
+    let refusal = record::write(p, timer, &mut written);
     (refusal == 0) & bytes::same_bytes(&written, xrecord)
 }
 
 // The EID, the record and all memory.
 pub fn agree(
     p: Processor,
+    timer: Timer,
     ram: &[u8],
     rom: &[u8],
     belt: &[u8],
@@ -60,10 +60,10 @@ pub fn agree(
     xbelt: &[u8],
     wanted: u32,
 ) -> bool
-    ensures { λ r. ⌜ r ≡ agrees (expectedLent xrecord xram xrom xbelt) wanted (before p ram rom belt) eid ⌝ }
+    ensures { λ r. ⌜ r ≡ agrees (expectedLent xrecord xram xrom xbelt) wanted (before p timer ram rom belt) eid ⌝ }
 {
     (eid == wanted)
-        & record_agrees(p, xrecord)
+        & record_agrees(p, timer, xrecord)
         & bytes::same_bytes(ram, xram)
         & bytes::same_bytes(rom, xrom)
         & bytes::same_bytes(belt, xbelt)

@@ -5,6 +5,7 @@ use Rattle.words.specs.Numbers.{zeroExtend, signExtend}
 use Rattle.words.specs.Identifiers.{illegalInstruction}
 use lib.ListN.{getD}
 use denote.Ref.{now}
+use Rattle.timer.specs.declared.Timer.{Timer}
 use Rattle.memory.specs.Map.{Memory}
 use Rattle.memory.specs.Lent.{Lent, lent}
 use Rattle.instructions.specs.Action.{Action, Write, Exception}
@@ -41,14 +42,15 @@ pub record Surroundings : Type 0 where
   pub psw : ℕ
   pub highs : List ℕ
   pub lows : List ℕ
+  pub timer : Timer
   pub memory : Memory
 
-abbrev pub surroundings : ℕ → List ℕ → List ℕ → Memory → Surroundings
-surroundings psw highs lows memory = record { psw = psw; highs = highs; lows = lows; memory = memory }
+abbrev pub surroundings : ℕ → List ℕ → List ℕ → Timer → Memory → Surroundings
+surroundings psw highs lows timer memory = record { psw = psw; highs = highs; lows = lows; timer = timer; memory = memory }
 
 -- as a contract names them, of what is lent to a call
-abbrev pub around : ℕ → Lent → Lent → Lent → Lent → Lent → Surroundings
-around psw highs lows ram rom belt = surroundings psw (now (highs .entry)) (now (lows .entry)) (lent ram rom belt)
+abbrev pub around : ℕ → Lent → Lent → Timer → Lent → Lent → Lent → Surroundings
+around psw highs lows timer ram rom belt = surroundings psw (now (highs .entry)) (now (lows .entry)) timer (lent ram rom belt)
 
 -- what an instruction does: from its operands alone, or from the surroundings too
 abbrev pub Simple : Type 0

@@ -8,8 +8,8 @@ use lib.Dec.{eqb}
 use lib.ListN.{length, getD, List·getD-eq-default}
 use borrow.Author.Tests.{eq-eqb}
 use Rattle.words.proofs.Cases.{below-or-not}
-use Rattle.record_layout.specs.Record.{recordOf, kindsInPlace}
-use Rattle.record_layout.proofs.KindLaws.{means-kinds}
+use Rattle.record_layout.specs.Record.{recordOf, kindsInPlace, processorOf, timerOf}
+use Rattle.record_layout.proofs.KindLaws.{Kinds, means-kinds}
 use Rattle.record_layout.proofs.Written.{record-length}
 use Rattle.record.proofs.WrittenRead.{Value, holds}
 use Rattle.machine.specs.Machine.{Machine, Words32, Representable}
@@ -44,17 +44,21 @@ value m r =
 
 module _ (m : Machine) (r : Representable m) where
   abbrev s : List ℕ
-  s = recordOf (m .processor)
+  s = recordOf (m .processor) (m .timer)
+
+  -- its kind bytes, processor and timer
+  held : Kinds s × (processorOf s ≡ m .processor) × (timerOf s ≡ m .timer)
+  held = holds (m .processor) (m .timer) (value m r) (r .timer)
 
   machine-is : machineIn s (m .memory) ≡ m
-  machine-is = λ i. record { processor = holds (m .processor) (value m r) .1 i; memory = m .memory }
+  machine-is = λ i. record { processor = held .1 i; timer = held .2 i; memory = m .memory }
 
   -- only fitness can be missing in it
   pub refusal-is : (wanted : ℕ) → callRefusal s (m .memory) wanted ≡ runRefusal m wanted
   unfolding callRefusal runRefusal
   refusal-is wanted =
-      let kinds : kindsInPlace s ≡ true = means-kinds s (holds (m .processor) (value m r) .0) in
-      rw (eq-eqb (length s) 414 (record-length (m .processor) (value m r .arrays)), kinds, holds (m .processor) (value m r) .1)
+      let kinds : kindsInPlace s ≡ true = means-kinds s (held .0) in
+      rw (eq-eqb (length s) 424 (record-length (m .timer) (m .processor) (value m r .arrays)), kinds, held .1, held .2)
 
 -- ---- an exported run is the run by value
 
@@ -62,7 +66,7 @@ handed-back : (o : Outcome) → Representable (o .machine) → handedBack (recor
 handed-back o r = λ i. record { machine = machine-is (o .machine) r i; answer = o .answer }
 
 handed-refused : (m : Machine) (number : ℕ) → Representable m
-    → handedBack (called (recordOf (m .processor)) (m .memory) number 0 32) ≡ refused m number
+    → handedBack (called (recordOf (m .processor) (m .timer)) (m .memory) number 0 32) ≡ refused m number
 handed-refused m number r = λ i. record { machine = machine-is m r i; answer = refused m number .answer }
 
 module _ (q : Request) (m : Machine) (r : Representable m) where
@@ -71,7 +75,7 @@ module _ (q : Request) (m : Machine) (r : Representable m) where
   exported-outcome = rw (refusal-is m r (q .wanted), machine-is m r, run-is q m) (go (eqb (runRefusal m (q .wanted)) 0))
     where
       go : (t : Bool)
-          → handedBack (cond t (recorded (runFrom q (q .wanted) 0 m)) (called (recordOf (m .processor)) (m .memory) (runRefusal m (q .wanted)) 0 32))
+          → handedBack (cond t (recorded (runFrom q (q .wanted) 0 m)) (called (recordOf (m .processor) (m .timer)) (m .memory) (runRefusal m (q .wanted)) 0 32))
           ≡ cond t (runFrom q (q .wanted) 0 m) (refused m (runRefusal m (q .wanted)))
       go true = handed-back (runFrom q (q .wanted) 0 m) (run-representable q (q .wanted) 0 m r)
       go false = handed-refused m (runRefusal m (q .wanted)) r

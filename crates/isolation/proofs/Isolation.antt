@@ -1,15 +1,16 @@
 -- User Mode isolation of every list of runs, from any machine in User Mode (demand 3).
-use mathlib.Core.Path.{_≡_, refl, ap₂, sym}
+use mathlib.Core.Path.{_≡_, refl, ap, ap₂, sym, _∙_}
 use mathlib.Core.Bool.{Bool, true, false, cond, true≢false}
 use mathlib.Core.List.{List, [], _∷_}
-use Prim.Native.Nat.{ℕ}
+use Prim.Native.Nat.{ℕ, suc}
+use Rattle.timer.specs.Timer.{ticked, ticks}
 use Rattle.memory.specs.Map.{Memory}
 use Rattle.machine.specs.Machine.{Machine, Representable}
-use Rattle.isolation.specs.Frames.{SameIn}
+use Rattle.isolation.specs.Frames.{TimerNotWritable, SameIn}
 use Rattle.words.specs.Lists.{Pairwise}
 use Rattle.isolation.specs.Trace.{Call, Made, inUserMode, callOutcome, callTrace, traceOf, upToLeaving, madeInUserMode, answersOf}
-use Rattle.isolation.specs.Claim.{Held, HeldStep, Consecutive, Alike, AlikeAfter, Isolated}
-use Rattle.isolation.proofs.UserStep.{step-left}
+use Rattle.isolation.specs.Claim.{Held, HeldStep, Consecutive, Numbered, Alike, AlikeAfter, Isolated}
+use Rattle.isolation.proofs.UserStep.{step-ticks, step-left}
 use Rattle.isolation.proofs.TraceLaws.{Follows, trace-follows}
 use Rattle.isolation.proofs.Lift.{Both, BothAfter}
 use Rattle.isolation.proofs.Runs.{Ended, call-ends, call-pairs}
@@ -60,12 +61,16 @@ held-at-start m =
 -- ---- the two parts of the claim
 
 module _ (start : Machine) where
+  -- a step as the claim has it, and what it makes of the timer
+  abbrev HeldTick : Machine → Made → Type 0
+  HeldTick m s = HeldStep start m s × (TimerNotWritable (start .processor) → s .machine .timer ≡ ticked (m .timer))
+
   -- past a step: only where it stays in User Mode is there more
   onward : (m : Machine) (t : Bool) → inUserMode m ≡ t → (u : Bool) (xs ys : List Made)
       → Pairwise (BothAfter start) (cond t (upToLeaving xs) []) (cond u (upToLeaving ys) [])
       → ((zs : List Made) → inUserMode m ≡ true → Pairwise (BothAfter start) (upToLeaving xs) (upToLeaving zs)
-      → Consecutive (HeldStep start) m (upToLeaving xs))
-      → Consecutive (HeldStep start) m (cond t (upToLeaving xs) [])
+      → Consecutive HeldTick m (upToLeaving xs))
+      → Consecutive HeldTick m (cond t (upToLeaving xs) [])
   unfolding upToLeaving
   onward m true stay true xs ys rest go = go ys stay rest
   onward m true stay false xs ys rest go = go [] stay rest
@@ -73,19 +78,35 @@ module _ (start : Machine) where
 
   -- from a machine in User Mode on: each pair's first machine is held, and each step follows the one before
   held-steps : (m : Machine) (xs ys : List Made) → Held start m → inUserMode m ≡ true → Follows m xs
-      → Pairwise (BothAfter start) (upToLeaving xs) (upToLeaving ys) → Consecutive (HeldStep start) m (upToLeaving xs)
+      → Pairwise (BothAfter start) (upToLeaving xs) (upToLeaving ys) → Consecutive HeldTick m (upToLeaving xs)
   unfolding upToLeaving
   held-steps m [] ys held user f pairs = tt
   held-steps m (x ∷ xs) [] held user f pairs = absurd pairs
   held-steps m (x ∷ xs) (y ∷ ys) held user f pairs = (
-    record {
-      step = f .0;
-      held = pairs .0 .held;
-      leaving = step-left start m held user (x .lines) (x .machine) (f .0);
-    },
+    (
+      record {
+        step = f .0;
+        held = pairs .0 .held;
+        leaving = step-left start m held user (x .lines) (x .machine) (f .0);
+      },
+      λ closed. step-ticks start m held user (x .lines) closed (x .machine) (f .0),
+    ),
     onward (x .machine) (inUserMode (x .machine)) refl (inUserMode (y .machine)) xs ys (pairs .1)
         (λ zs stay rest. held-steps (x .machine) xs zs (pairs .0 .held) stay (f .1) rest),
   )
+
+  steps-held : (m : Machine) (xs : List Made) → Consecutive HeldTick m xs → Consecutive (HeldStep start) m xs
+  steps-held m [] h = tt
+  steps-held m (x ∷ xs) h = (h .0 .0, steps-held (x .machine) xs (h .1))
+
+-- each step ticks once, so n steps tick n times
+numbered : (start : Machine) → TimerNotWritable (start .processor) → (n : ℕ) (m : Machine) (xs : List Made) → m .timer ≡ ticks n (start .timer)
+    → Consecutive (HeldTick start) m xs → Numbered (λ k s. s .machine .timer ≡ ticks k (start .timer)) (suc n) xs
+unfolding ticks
+numbered start closed n m [] e h = tt
+numbered start closed n m (x ∷ xs) e h =
+    let now : x .machine .timer ≡ ticks (suc n) (start .timer) = h .0 .1 closed ∙ ap ticked e in
+    (now, numbered start closed (suc n) (x .machine) xs now (h .1))
 
 alikes : (start : Machine) (xs ys : List Made) → Pairwise (BothAfter start) xs ys → Pairwise (AlikeAfter (start .processor)) xs ys
 alikes start [] [] h = tt
@@ -99,13 +120,21 @@ module _ (calls : List Call) (start : Machine) (types : Representable start) (us
   begun : (twin : Machine) → Representable twin → Alike (start .processor) start twin → Both start start twin
   begun twin types′ alike = record { alike = alike; held = held-at-start start; first = types; second = types′ }
 
+  held : Consecutive (HeldTick start) start (upToLeaving (traceOf calls start))
+  held =
+      held-steps start start (traceOf calls start) (traceOf calls start) (held-at-start start) user (trace-follows calls start types)
+      (list-pairs start calls start start
+      (begun start types (record { processor = refl; timer = refl; frames = same-memory _ (start .memory) })) user)
+
   pub isolated : Isolated calls start
+  unfolding ticks
   isolated =
       record {
         integrity =
-            held-steps start start (traceOf calls start) (traceOf calls start) (held-at-start start) user (trace-follows calls start types)
-            (list-pairs start calls start start
-            (begun start types (record { processor = refl; frames = same-memory _ (start .memory) })) user);
+            record {
+              steps = steps-held start start (upToLeaving (traceOf calls start)) held;
+              timer = λ closed. numbered start closed 0 start (upToLeaving (traceOf calls start)) refl held;
+            };
         confidentiality = λ twin types′ alike.
             record {
               steps = alikes start (upToLeaving (traceOf calls start)) (upToLeaving (traceOf calls twin))

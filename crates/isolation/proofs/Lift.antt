@@ -60,7 +60,7 @@ module _ (start : Machine) where
 
   pub refusal-same : (m n : Machine) → Both start m n → (wanted : ℕ) → runRefusal n wanted ≡ runRefusal m wanted
   unfolding runRefusal
-  refusal-same m n b wanted = rw (b .alike .processor, b .alike .frames .ram, b .alike .frames .rom, b .alike .frames .belt)
+  refusal-same m n b wanted = rw (b .alike .processor, b .alike .timer, b .alike .frames .ram, b .alike .frames .rom, b .alike .frames .belt)
 
   module _ (lines : ℕ) where
     step-both : (m n : Machine) → Both start m n → inUserMode m ≡ true → Apart (m .memory) → Apart (n .memory)

@@ -2,6 +2,7 @@
 use mathlib.Core.Path.{_≡_, refl, ap}
 use mathlib.Core.List.{List, [], _∷_}
 use Prim.Native.Nat.{ℕ, _*_}
+use Rattle.timer.specs.declared.Timer.{Timer}
 use Rattle.memory.specs.Map.{Memory}
 use Rattle.instructions.specs.Operands.{Surroundings, surroundings, Operands, Simple, Meaning, simple, illegal, opcodeOf, fieldY}
 use Rattle.compute.specs.Compute.{computations}
@@ -15,16 +16,17 @@ use Rattle.words.specs.Lists.{Every}
 use Rattle.words.proofs.Every.{_&_}
 use Rattle.decode.proofs.Rows.{row-at}
 
-module _ (psw : ℕ) (highs lows : List ℕ) (m n : Memory)
+module _ (psw : ℕ) (highs lows : List ℕ) (timer : Timer) (m n : Memory)
     (reads : (width blocks : ℕ) → blocks * width ≡ 4096 → (address : ℕ)
-    → readFrom width (surroundings psw highs lows m) address ≡ readFrom width (surroundings psw highs lows n) address)
+    → readFrom width (surroundings psw highs lows timer m) address ≡ readFrom width (surroundings psw highs lows timer n) address)
     (stores : (width value address : ℕ)
-    → storeTo width (surroundings psw highs lows m) value address ≡ storeTo width (surroundings psw highs lows n) value address) where
+    → storeTo width (surroundings psw highs lows timer m) value address
+    ≡ storeTo width (surroundings psw highs lows timer n) value address) where
   abbrev s : Surroundings
-  s = surroundings psw highs lows m
+  s = surroundings psw highs lows timer m
 
   abbrev t : Surroundings
-  t = surroundings psw highs lows n
+  t = surroundings psw highs lows timer n
 
   abbrev Row : Meaning → Type 0
   Row f = (o : Operands) → f s o ≡ f t o

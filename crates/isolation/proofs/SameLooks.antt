@@ -1,4 +1,4 @@
--- In User Mode the look depends on the processor, the sizes and the reached frames alone.
+-- In User Mode the look depends on the processor, the timer, the sizes and the reached frames alone.
 use mathlib.Core.Path.{_≡_, refl, ap, sym, subst, _∙_}
 use mathlib.Core.Bool.{Bool, true, false, cond}
 use mathlib.Core.List.{List}
@@ -7,6 +7,8 @@ use native.Mathlib.Nat.{mul-assoc, mul-mod-left, mul-add-mod-self-right, mod-mod
 use native.Mathlib.Omega.{arith}
 use lib.Dec.{ltb}
 use lib.ListN.{length, getD}
+use Rattle.timer.specs.Timer.{linesWith}
+use Rattle.timer.specs.declared.Timer.{Timer}
 use Rattle.memory.specs.Map.{Memory, placeIn, byteAt}
 use Rattle.memory.specs.Access.{loadOf, storeAnswer, completes}
 use Rattle.memory.proofs.Frames.{one-frame}
@@ -61,27 +63,30 @@ module _ (p : Processor) (width blocks : ℕ) (store : Bool) (address physical :
   pub byte-reached : (i : ℕ) → i < width → Reached p (frameAt (physical + i))
   byte-reached i h = subst (Reached p) (sym (each-frame i h)) (pageOf address, granted-page)
 
+  pub access-writable : store ≡ true → ReachedWritable p (frameAt physical)
+  access-writable e = (pageOf address, granted-page, g .may-write e)
+
   pub byte-writable : store ≡ true → (i : ℕ) → i < width → ReachedWritable p (frameAt (physical + i))
-  byte-writable e i h = subst (ReachedWritable p) (sym (each-frame i h)) (pageOf address, granted-page, g .may-write e)
+  byte-writable e i h = subst (ReachedWritable p) (sym (each-frame i h)) (access-writable e)
 
 -- ---- the look
 
-module _ (p : Processor) (user : userMode (p .psw) ≡ true) (m n : Memory) (apart : Apart m) (apart′ : Apart n)
+module _ (p : Processor) (timer : Timer) (user : userMode (p .psw) ≡ true) (m n : Memory) (apart : Apart m) (apart′ : Apart n)
     (same : SameIn (Reached p) m n) where
   abbrev s : Surroundings
-  s = surroundings (p .psw) (p .tlbhigh) (p .tlblow) m
+  s = surroundings (p .psw) (p .tlbhigh) (p .tlblow) timer m
 
   abbrev t : Surroundings
-  t = surroundings (p .psw) (p .tlbhigh) (p .tlblow) n
+  t = surroundings (p .psw) (p .tlbhigh) (p .tlblow) timer n
 
   lengths : SameLengths m n
   lengths = (same .ram, same .rom, same .belt)
 
   reads-through : (width blocks address : ℕ) → blocks * width ≡ 4096 → (r : Translation)
-      → translated (p .psw) (p .tlbhigh) (p .tlblow) width false address ≡ r → readThrough width m r ≡ readThrough width n r
+      → translated (p .psw) (p .tlbhigh) (p .tlblow) width false address ≡ r → readThrough width timer m r ≡ readThrough width timer n r
   reads-through width blocks address d (Physical a) e =
       let g = user-granted (p .psw) (p .tlbhigh) (p .tlblow) width false address a user e in
-      ap answered (load-same m n apart apart′ lengths width a
+      ap answered (load-same m n apart apart′ lengths timer width a
       (λ i h. same .bytes (a + i) (byte-reached p width blocks false address a d g i h)))
   reads-through width blocks address d TlbMiss e = refl
   reads-through width blocks address d TlbWrite e = refl
@@ -114,11 +119,12 @@ module _ (p : Processor) (user : userMode (p .psw) ≡ true) (m n : Memory) (apa
 
   decoded-same : (r : Read) → decoded s (p .registers) (p .pc) r ≡ decoded t (p .registers) (p .pc) r
   decoded-same (Value word) =
-      executed-same (p .psw) (p .tlbhigh) (p .tlblow) m n reads stores (operandsOf (p .registers) (p .pc) word)
+      executed-same (p .psw) (p .tlbhigh) (p .tlblow) timer m n reads stores (operandsOf (p .registers) (p .pc) word)
   decoded-same (Fault eid) = refl
 
-  pub look-same : (lines : ℕ) → look (record { processor = p; memory = m }) lines ≡ look (record { processor = p; memory = n }) lines
+  pub look-same : (lines : ℕ)
+      → look (record { processor = p; timer = timer; memory = m }) lines ≡ look (record { processor = p; timer = timer; memory = n }) lines
   unfolding look lookFrom
   look-same lines =
-      ap (cond (ltb (channel (p .psw) lines) 32) (Exception (channel (p .psw) lines) 0))
+      ap (cond (ltb (channel (p .psw) (linesWith timer lines)) 32) (Exception (channel (p .psw) (linesWith timer lines)) 0))
       (decoded-same (readFrom 4 s (p .pc)) ∙ ap (decoded t (p .registers) (p .pc)) (reads 4 1024 refl (p .pc)))

@@ -8,7 +8,7 @@ use Rattle.endian.specs.BigEndian.{writeAt}
 use Rattle.memory.specs.Map.{Memory, placeIn, locate, byteIn, byteAt}
 use Rattle.memory.specs.Access.{writeIn, memoryAfter}
 use Rattle.memory.specs.declared.Place.{Place}
-use Rattle.memory.specs.declared.Place.the-variants.{Ram, Rom, Belt, Nothing}
+use Rattle.memory.specs.declared.Place.the-variants.{Ram, Rom, Belt, Timer, Nothing}
 use Rattle.memory.proofs.OwnBytes.{SameLengths, same-locate, same-place}
 use Rattle.memory.proofs.StoreLaws.{store-lengths}
 use Rattle.isolation.specs.Frames.{SameIn}
@@ -36,12 +36,15 @@ module _ (w a v : ℕ) (m n : Memory) (lengths : SameLengths m n) where
   write-in-same (Ram at) (Ram x) h = write-same w (m .ram) (n .ram) at v x (lengths .0) h
   write-in-same (Ram at) (Rom x) h = h
   write-in-same (Ram at) (Belt x) h = h
+  write-in-same (Ram at) (Timer x) h = h
   write-in-same (Ram at) Nothing h = h
   write-in-same (Rom at) q h = h
   write-in-same (Belt at) (Ram x) h = h
   write-in-same (Belt at) (Rom x) h = h
   write-in-same (Belt at) (Belt x) h = write-same w (m .belt) (n .belt) at v x (lengths .2) h
+  write-in-same (Belt at) (Timer x) h = h
   write-in-same (Belt at) Nothing h = h
+  write-in-same (Timer at) q h = h
   write-in-same Nothing q h = h
 
   -- where a byte is

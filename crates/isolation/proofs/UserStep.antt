@@ -3,12 +3,15 @@ use mathlib.Core.Path.{_≡_, refl, ap, ap₂, sym, subst, _∙_}
 use mathlib.Core.Bool.{Bool, true, false, cond, true≢false}
 use mathlib.Core.List.{List}
 use Prim.Native.Nat.{ℕ, _<_}
+use native.Mathlib.Omega.{arith}
 use lib.Dec.{ltb}
 use lib.ListN.{getD}
-use Rattle.memory.specs.Map.{Memory}
-use Rattle.memory.specs.Access.{storeWidth, memoryAfter}
+use Rattle.timer.specs.Timer.{ticked, linesWith}
+use Rattle.timer.specs.declared.Timer.{Timer}
+use Rattle.memory.specs.Map.{Memory, timerBase}
+use Rattle.memory.specs.Access.{storeWidth, memoryAfter, timerAfter}
 use Rattle.memory.proofs.OwnBytes.{Apart}
-use Rattle.memory.proofs.StoreLaws.{store-lengths, store-rom, store-keeps}
+use Rattle.memory.proofs.StoreLaws.{store-lengths, store-rom, store-keeps, store-keeps-timer, timer-after-same}
 use Rattle.status.specs.Psw.{pushed}
 use Rattle.look.specs.Interrupt.{channel}
 use Rattle.tlb.specs.Lookup.{lookup}
@@ -26,13 +29,13 @@ use Rattle.access.specs.declared.Read.the-variants.{Value, Fault}
 use Rattle.machine.specs.Machine.{Machine}
 use Rattle.look.specs.Look.{operandsOf, decoded, lookFrom}
 use Rattle.actions.specs.Actions.{processorAfter}
-use Rattle.step.specs.Step.{surroundingsOf, look, memoryDone, done, stepOf, eidOf}
-use Rattle.isolation.specs.Frames.{frameAt, lowWord, ValidUserPage, Reached, ReachedWritable, SameIn}
+use Rattle.step.specs.Step.{surroundingsOf, look, timerDone, memoryDone, done, stepOf, eidOf}
+use Rattle.isolation.specs.Frames.{frameAt, lowWord, ValidUserPage, Reached, ReachedWritable, TimerNotWritable, SameIn}
 use Rattle.isolation.specs.Trace.{inUserMode}
 use Rattle.isolation.specs.Claim.{Specials, Left, Held, Alike}
 use Rattle.decode.proofs.Outcomes.{Granted}
 use Rattle.isolation.proofs.UserActions.{UserAction, executed-user}
-use Rattle.isolation.proofs.SameLooks.{byte-writable, look-same}
+use Rattle.isolation.proofs.SameLooks.{access-writable, byte-writable, look-same}
 use Rattle.isolation.proofs.SameStores.{store-same}
 
 -- ---- the look in User Mode
@@ -45,10 +48,10 @@ decoded-user m user (Fault eid) = tt
 pub look-user : (m : Machine) (lines : ℕ) → inUserMode m ≡ true → UserAction (surroundingsOf m) (look m lines)
 unfolding look lookFrom
 look-user m lines user =
-    go (ltb (channel (m .processor .psw) lines) 32)
+    go (ltb (channel (m .processor .psw) (linesWith (m .timer) lines)) 32)
   where
     go : (t : Bool) → UserAction (surroundingsOf m)
-        (cond t (Exception (channel (m .processor .psw) lines) 0)
+        (cond t (Exception (channel (m .processor .psw) (linesWith (m .timer) lines)) 0)
         (decoded (surroundingsOf m) (m .processor .registers) (m .processor .pc) (readFrom 4 (surroundingsOf m) (m .processor .pc))))
     go true = tt
     go false = decoded-user m user (readFrom 4 (surroundingsOf m) (m .processor .pc))
@@ -141,6 +144,22 @@ module _ (start m : Machine) (held : Held start m) (user : inUserMode m ≡ true
   unfolding stepOf
   step-held = held-after (look m lines) (look-user m lines user)
 
+  -- unless the timer's frame is reached writable, a step ticks the timer and does no more to it
+  timer-kept : TimerNotWritable (start .processor) → (a : Action) → UserAction (surroundingsOf m) a → timerDone (m .timer) (m .memory) a ≡ m .timer
+  timer-kept closed (Write n v next) u = refl
+  timer-kept closed (Store width physical v) g =
+      let granted = user-granted (m .processor .psw) (m .processor .tlbhigh) (m .processor .tlblow) width true (g .address) physical user (g .granted) in
+      let reached = access-writable (m .processor) width (g .blocks) true (g .address) physical (g .divides) granted refl in
+      store-keeps-timer (storeWidth width) (m .memory) physical v (m .timer)
+      (λ at low e. closed (writable-by-tlb (m .processor) (start .processor) (held .tlbhigh) (held .tlblow) (frameAt timerBase)
+      (subst (ReachedWritable (m .processor)) (omega arith) reached)))
+  timer-kept closed (System i) u = absurd u
+  timer-kept closed (Exception eid address) u = refl
+
+  pub step-ticks : TimerNotWritable (start .processor) → (n : Machine) → n ≡ stepOf m lines .machine → n .timer ≡ ticked (m .timer)
+  unfolding stepOf
+  step-ticks closed n e = ap (λ (k : Machine). k .timer) e ∙ ap ticked (timer-kept closed (look m lines) (look-user m lines user))
+
   -- only an exception leaves
   left-after : (a : Action) → UserAction (surroundingsOf m) a → look m lines ≡ a → inUserMode (done m a) ≡ false
       → Left start m (record { lines = lines; machine = done m a })
@@ -173,15 +192,22 @@ memory-alike F m n same (Store width physical v) = store-same (storeWidth width)
 memory-alike F m n same (System i) = same
 memory-alike F m n same (Exception eid address) = same
 
+-- the sizes alone say where a store goes
+timer-alike : (t : Timer) (F : ℕ → Type 0) (m n : Memory) → SameIn F m n → (a : Action) → timerDone t m a ≡ timerDone t n a
+timer-alike t F m n same (Write r v next) = refl
+timer-alike t F m n same (Store width physical v) = timer-after-same m n (same .ram, same .rom, same .belt) (storeWidth width) t physical v
+timer-alike t F m n same (System i) = refl
+timer-alike t F m n same (Exception eid address) = refl
+
 module _ (q : Processor) (m n : Machine) (alike : Alike q m n)
     (high : m .processor .tlbhigh ≡ q .tlbhigh) (low : m .processor .tlblow ≡ q .tlblow)
     (user : inUserMode m ≡ true) (apart : Apart (m .memory)) (apart′ : Apart (n .memory)) (lines : ℕ) where
-  -- the second memory with the first processor, which is the second machine
+  -- the second memory with the first processor and timer, which is the second machine
   abbrev n′ : Machine
-  n′ = record { processor = m .processor; memory = n .memory }
+  n′ = record { processor = m .processor; timer = m .timer; memory = n .memory }
 
   n-is : n′ ≡ n
-  n-is = λ i. record { processor = alike .processor i; memory = n .memory }
+  n-is = λ i. record { processor = alike .processor i; timer = alike .timer i; memory = n .memory }
 
   abbrev own : SameIn (Reached (m .processor)) (m .memory) (n .memory)
   own =
@@ -194,7 +220,7 @@ module _ (q : Processor) (m n : Machine) (alike : Alike q m n)
 
   pub look-alike : look m lines ≡ look n lines
   look-alike =
-      look-same (m .processor) user (m .memory) (n .memory) apart apart′ own lines
+      look-same (m .processor) (m .timer) user (m .memory) (n .memory) apart apart′ own lines
       ∙ ap (λ (k : Machine). look k lines) n-is
 
   pub eid-alike : stepOf m lines .event .eid ≡ stepOf n lines .event .eid
@@ -206,6 +232,8 @@ module _ (q : Processor) (m n : Machine) (alike : Alike q m n)
   step-alike =
       record {
         processor = ap₂ processorAfter (alike .processor) look-alike;
+        timer = ap ticked (timer-alike (m .timer) (Reached q) (m .memory) (n .memory) (alike .frames) (look m lines)
+            ∙ ap₂ (λ (t : Timer) (a : Action). timerDone t (n .memory) a) (alike .timer) look-alike);
         frames = subst (λ (a : Action). SameIn (Reached q) (memoryDone (m .memory) (look m lines)) (memoryDone (n .memory) a)) look-alike
             (memory-alike (Reached q) (m .memory) (n .memory) (alike .frames) (look m lines));
       }

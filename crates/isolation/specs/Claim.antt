@@ -1,14 +1,15 @@
--- What isolation says of a list of runs (document 01, "Runs and views", last three paragraphs; demand 3).
+-- What isolation says of a list of runs (document 01, "Runs and views", last three paragraphs; document 02, job 1; demand 3).
 use mathlib.Core.Path.{_≡_}
 use mathlib.Core.Bool.{true, false}
 use mathlib.Core.List.{List, [], _∷_}
-use Prim.Native.Nat.{ℕ}
+use Prim.Native.Nat.{ℕ, suc}
+use Rattle.timer.specs.Timer.{ticks}
 use Rattle.processor.specs.declared.Processor.{Processor}
 use Rattle.processor.specs.Exception.{entered}
 use Rattle.instructions.specs.Action.{Exception}
 use Rattle.machine.specs.Machine.{Machine, Representable}
 use Rattle.step.specs.Step.{look, stepOf}
-use Rattle.isolation.specs.Frames.{Reached, ReachedWritable, SameIn}
+use Rattle.isolation.specs.Frames.{Reached, ReachedWritable, TimerNotWritable, SameIn}
 use Rattle.words.specs.Lists.{Pairwise}
 use Rattle.isolation.specs.Trace.{Call, Made, inUserMode, traceOf, upToLeaving, answersOf}
 
@@ -63,14 +64,25 @@ abbrev pub Consecutive : (Machine → Made → Type 0) → Machine → List Made
 Consecutive P m [] = Unit {0}
 Consecutive P m (s ∷ ss) = P m s × Consecutive P (s .machine) ss
 
-abbrev pub Integrity : List Call → Machine → Type 0
-Integrity calls start = Consecutive (HeldStep start) start (upToLeaving (traceOf calls start))
+-- of each step of a trace, with its number
+abbrev pub Numbered : (ℕ → Made → Type 0) → ℕ → List Made → Type 0
+Numbered P n [] = Unit {0}
+Numbered P n (s ∷ ss) = P n s × Numbered P (suc n) ss
+
+-- and, unless the timer can be written, after the first step, the second and so on the timer is the start's, ticked once, twice and so on: it
+-- ticks by itself, and User Mode has not changed it
+pub record Integrity (calls : List Call) (start : Machine) : Type 0 where
+  pub steps : Consecutive (HeldStep start) start (upToLeaving (traceOf calls start))
+  pub timer : TimerNotWritable (start .processor)
+      → Numbered (λ n s. s .machine .timer ≡ ticks n (start .timer)) 1 (upToLeaving (traceOf calls start))
 
 -- ---- confidentiality
 
--- equal processor states and sizes, and equal bytes in the frames that p reaches
+-- equal processor states, timers and sizes, and equal bytes in the frames that p reaches. The timers are equal whether p reaches them or not, since
+-- a timer can interrupt the routine
 pub record Alike (p : Processor) (m n : Machine) : Type 0 where
   pub processor : m .processor ≡ n .processor
+  pub timer : m .timer ≡ n .timer
   pub frames : SameIn (Reached p) (m .memory) (n .memory)
 
 -- after a step of each

@@ -3,7 +3,7 @@ use mathlib.Core.Path.{_≡_}
 use mathlib.Core.Bool.{true}
 use Prim.Native.Nat.{ℕ, _/_, _<_}
 use lib.ListN.{length, getD}
-use Rattle.memory.specs.Map.{Memory, byteAt}
+use Rattle.memory.specs.Map.{Memory, byteAt, timerBase}
 use Rattle.processor.specs.declared.Processor.{Processor}
 use Rattle.tlb.specs.Lookup.{noEntry, lookup}
 use Rattle.translation.specs.Translation.{frameOf, valid, writable}
@@ -30,6 +30,10 @@ Reached p frame = (page : ℕ) × ValidUserPage p page frame
 -- and reached writable if the write bit of that entry is set too
 abbrev pub ReachedWritable : Processor → ℕ → Type 0
 ReachedWritable p frame = (page : ℕ) × ValidUserPage p page frame × (writable (lowWord p page) ≡ true)
+
+-- no valid writable user page reaches the frame of the timer's registers; the whole timer, its counter included, belongs to it
+abbrev pub TimerNotWritable : Processor → Type 0
+TimerNotWritable p = ReachedWritable p (frameAt timerBase) → ⊥
 
 -- the same sizes, and the same bytes in the frames of which Frames holds; a frame's bytes are those of RAM, ROM or belt that answer there
 pub record SameIn (Frames : ℕ → Type 0) (m n : Memory) : Type 0 where

@@ -14,7 +14,7 @@ use Rattle.run_calls.specs.Runs.{Called, machineIn, callSteps, callOf}
 abbrev pub inUserMode : Machine → Bool
 inUserMode m = userMode (m .processor .psw)
 
--- where a run is entered: with the processor by value, or as an exported call with the machine as its record
+-- where a run is entered: with processor and timer by value, or as an exported call with the machine as its record
 pub data EntryPoint : Type 0 where
   ByValue : EntryPoint
   Exported : EntryPoint
@@ -32,12 +32,12 @@ handedBack c = record { machine = machineIn (c .buffer) (c .memory); answer = c 
 
 abbrev pub outcomeBy : EntryPoint → Request → Machine → Outcome
 outcomeBy ByValue q m = runOf q m
-outcomeBy Exported q m = handedBack (callOf q (recordOf (m .processor)) (m .memory))
+outcomeBy Exported q m = handedBack (callOf q (recordOf (m .processor) (m .timer)) (m .memory))
 
 -- a refused run makes no step
 abbrev pub stepsBy : EntryPoint → Request → Machine → List Stepped
 stepsBy ByValue q m = stepsOf q m
-stepsBy Exported q m = callSteps q (recordOf (m .processor)) (m .memory)
+stepsBy Exported q m = callSteps q (recordOf (m .processor) (m .timer)) (m .memory)
 
 unfoldable pub callOutcome : Call → Machine → Outcome
 callOutcome c m = outcomeBy (c .point) (c .request) m

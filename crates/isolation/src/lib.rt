@@ -2,6 +2,7 @@
 // machine say, as the theorem needs it.
 use processor::Processor;
 use processor::Words;
+use timer::Timer;
 ghost use Prim.Native.Nat.{_^_, _<_};
 ghost use Rattle.machine.specs.Machine.{before, Words32, Bounded, Bytes, Representable};
 
@@ -28,8 +29,8 @@ fn bytes(s: &[u8])
 }
 
 // The theorem speaks of every machine of the code's types: whatever a call is handed is representable.
-pub fn of_types(p: Processor, ram: &[u8], rom: &[u8], belt: &[u8])
-    ensures { λ r. ⌜ Representable (before p ram rom belt) ⌝ }
+pub fn of_types(p: Processor, timer: Timer, ram: &[u8], rom: &[u8], belt: &[u8])
+    ensures { λ r. ⌜ Representable (before p timer ram rom belt) ⌝ }
 {
     let registers = p.registers;
     let tlbhigh = p.tlbhigh;
@@ -39,6 +40,7 @@ pub fn of_types(p: Processor, ram: &[u8], rom: &[u8], belt: &[u8])
     words(tlblow);
     numbers(p.pc, p.psw, p.index, p.entryhigh);
     numbers(p.entrylow, p.badaddress, p.replacement, 0);
+    numbers(timer.divisor, timer.counter, timer.control, 0);
     bytes(ram);
     bytes(rom);
     bytes(belt)

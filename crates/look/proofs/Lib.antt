@@ -2,3 +2,4 @@
 pub mod ChannelLoop
 pub mod Ready
 pub mod Looks
+pub mod TimerChannel

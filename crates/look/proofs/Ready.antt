@@ -16,11 +16,11 @@ use Rattle.look.specs.Interrupt.{lowest, channel}
 
 -- ---- bits, one shift on
 
-bit-zero : (n : ℕ) → bit 0 n ≡ n % 2
+pub bit-zero : (n : ℕ) → bit 0 n ≡ n % 2
 unfolding bit
 bit-zero n = ap (λ (m : ℕ). m % 2) (div-one n)
 
-bit-next : (j n : ℕ) → bit j (n / 2) ≡ bit (suc j) n
+pub bit-next : (j n : ℕ) → bit j (n / 2) ≡ bit (suc j) n
 unfolding bit
 bit-next j n = ap (λ (m : ℕ). m % 2) (div-div-eq-div-mul n 2 (2 ^ j) ∙ ap (λ (m : ℕ). n / m) (sym (pow-succ' 2 j)))
 
@@ -74,11 +74,11 @@ module _ (psw lines : ℕ) where
   unfolding enabled
   enabled-lt = omega arith
 
-  ready-set : (i : ℕ) → IsReady psw lines i → bit i (bitAnd lines (enabled psw)) ≡ 1
+  pub ready-set : (i : ℕ) → IsReady psw lines i → bit i (bitAnd lines (enabled psw)) ≡ 1
   unfolding and
   ready-set i r = and-bit i lines (enabled psw) ∙ rw (r .0, r .1)
 
-  set-ready : (i : ℕ) → bit i (bitAnd lines (enabled psw)) ≡ 1 → IsReady psw lines i
+  pub set-ready : (i : ℕ) → bit i (bitAnd lines (enabled psw)) ≡ 1 → IsReady psw lines i
   unfolding and
   set-ready i e =
       let both : min (bit i lines) (bit i (enabled psw)) ≡ 1 = sym (and-bit i lines (enabled psw)) ∙ e in

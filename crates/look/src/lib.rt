@@ -3,6 +3,7 @@ use access::Read;
 use instructions::Coded;
 use processor::Processor;
 use processor::Words;
+use timer::Timer;
 ghost use mathlib.Core.Path.{_≡_};
 ghost use Rattle.look.specs.Interrupt.{lowest, channel};
 ghost use Rattle.tlb.specs.Found.{Serves};
@@ -48,25 +49,27 @@ pub fn look_at<'a>(
     highs: &'a Words,
     lows: &'a Words,
     i: usize,
+    timer: Timer,
     ram: &[u8],
     rom: &[u8],
     belt: &[u8],
     lines: u32,
 ) -> Coded
     requires { ⌜ Serves (now highs) i pc ⌝ }
-    ensures { λ r. ⌜ actionOf r ≡ lookFrom (around psw highs lows ram rom belt) (now (registers .entry)) pc lines ⌝ }
+    ensures { λ r. ⌜ actionOf r ≡ lookFrom (around psw highs lows timer ram rom belt) (now (registers .entry)) pc lines ⌝ }
 {
     let channel = accepted(psw, lines);
     if channel < Processor::NO_EXCEPTION {
         return Coded::Exception(channel, 0, 0);
     }
-    let fetched = access::fetch(psw, highs, lows, i, ram, rom, belt, pc);
+    let fetched = access::fetch(psw, highs, lows, i, timer, ram, rom, belt, pc);
     match fetched {
         Read::Value(word) => decode::execute(
             registers,
             psw,
             highs,
             lows,
+            timer,
             ram,
             rom,
             belt,

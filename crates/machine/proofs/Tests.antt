@@ -7,10 +7,13 @@ use native.Mathlib.Numerals.{add-one}
 use lib.Dec.{eqb, leb}
 use lib.ListN.{getD}
 use Rattle.words.specs.Logic.{both}
-use Rattle.words.proofs.Conjunction.{four, five}
+use Rattle.words.proofs.Conjunction.{two, four, five}
 use Rattle.words.proofs.Counts.{left, over}
 use Rattle.kept_bits.specs.Kept.{keptPsw, keptIndex, keptHigh, keptLow, onlyFrom}
 use Rattle.kept_bits.specs.Code.{onlySpecial}
+use Rattle.timer.specs.Timer.{timerFit}
+use Rattle.timer.specs.declared.Timer.{Timer}
+use Rattle.machine.specs.Machine.{fitWith}
 use Rattle.processor.specs.State.{fit}
 use Rattle.processor.specs.declared.Processor.{Processor}
 use Rattle.processor.proofs.FitLaws.{fit-parts}
@@ -31,6 +34,11 @@ only-fit p {special} {tlb} s t =
     five (eqb (getD (p .registers) 0 0) 0) (leb 4 (p .replacement)) (leb (p .replacement) 31) special tlb
     ∙ ranged (eqb (getD (p .registers) 0 0) 0) (leb 4 (p .replacement)) (leb (p .replacement) 31) (both special tlb)
     ∙ rw (s, t) (sym (fit-parts p))
+
+-- with the timer
+pub fit-with : (p : Processor) (t : Timer) {a b : Bool} → a ≡ fit p → b ≡ timerFit t → (a && b) ≡ fitWith p t
+unfolding fitWith
+fit-with p t e f = rw (e, f) (two (fit p) (timerFit t))
 
 -- ---- the special registers
 

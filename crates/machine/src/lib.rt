@@ -1,12 +1,14 @@
-// Which processors are fit (document 01, cause 6 of "Refused calls"). The machine itself is a definition alone: in the code the
-// processor goes by value, and the memory stays with the host.
+// Which processors and timers are fit (document 01, cause 6 of "Refused calls"). The machine itself is a definition alone: in the code
+// processor and timer go by value, and the memory stays with the host.
 use processor::Processor;
 use processor::Words;
+use timer::Timer;
 ghost use mathlib.Core.Path.{_≡_};
 ghost use Rattle.words.specs.Logic.{both};
 ghost use Rattle.kept_bits.specs.Kept.{keptHigh, keptLow, onlyFrom};
 ghost use Rattle.kept_bits.specs.Code.{onlySpecial};
 ghost use Rattle.processor.specs.State.{fit};
+ghost use Rattle.machine.specs.Machine.{fitWith};
 
 // Whether PSW, TLB Index, Entry High and Entry Low have only bits that they keep.
 fn only_special(psw: u32, index: u32, high: u32, low: u32) -> bool
@@ -44,4 +46,10 @@ pub fn is_fit(p: Processor) -> bool
         & (p.replacement <= 31)
         & only_special(p.psw, p.index, p.entryhigh, p.entrylow)
         & only_words(&tlbhigh, &tlblow)
+}
+
+pub fn is_fit_with(p: Processor, timer: Timer) -> bool
+    ensures { λ r. ⌜ r ≡ fitWith p timer ⌝ }
+{
+    is_fit(p) & timer.is_fit()
 }

@@ -6,9 +6,10 @@ use Prim.Native.Nat.{ℕ}
 use borrow.Author.Tests.{eqb-true}
 use Rattle.words.proofs.Conjunction.{both-true}
 use Rattle.bytes.proofs.SameLaws.{same-equal, numbers-first, lists-first}
+use Rattle.timer.specs.declared.Timer.{Timer}
 use Rattle.processor.specs.declared.Processor.{Processor}
 use Rattle.machine.specs.Machine.{Machine}
-use Rattle.machines.specs.Unchanged.{sameSpecial, sameTlb, sameProcessor, sameMachine}
+use Rattle.machines.specs.Unchanged.{sameSpecial, sameTlb, sameProcessor, sameTimer, sameState, sameMachine}
 
 pub same-processor-equal : (p q : Processor) → sameProcessor p q ≡ true → p ≡ q
 unfolding sameProcessor sameSpecial sameTlb
@@ -37,10 +38,19 @@ same-processor-equal p q e =
       replacement = last i;
     }
 
-pub same-machine-equal : (p : Processor) (ram belt : List ℕ) (m : Machine) → sameMachine p ram belt m ≡ true
-    → (p ≡ m .processor) × (ram ≡ m .memory .ram) × (belt ≡ m .memory .belt)
-unfolding sameMachine
-same-machine-equal p ram belt m e =
-    let (processor, rest) = both-true (sameProcessor p (m .processor)) _ e in
+pub same-timer-equal : (t u : Timer) → sameTimer t u ≡ true → t ≡ u
+unfolding sameTimer
+same-timer-equal t u e =
+    let (divisor, r1) = numbers-first (t .divisor) (u .divisor) _ e in
+    let (counter, r2) = numbers-first (t .counter) (u .counter) _ r1 in
+    let control = eqb-true (t .control) (u .control) r2 in
+    λ i. record { divisor = divisor i; counter = counter i; control = control i }
+
+pub same-machine-equal : (p : Processor) (t : Timer) (ram belt : List ℕ) (m : Machine) → sameMachine p t ram belt m ≡ true
+    → (p ≡ m .processor) × (t ≡ m .timer) × (ram ≡ m .memory .ram) × (belt ≡ m .memory .belt)
+unfolding sameMachine sameState
+same-machine-equal p t ram belt m e =
+    let (state, rest) = both-true (sameState p t (m .processor) (m .timer)) _ e in
+    let (processor, timer) = both-true (sameProcessor p (m .processor)) (sameTimer t (m .timer)) state in
     let (first, second) = lists-first ram (m .memory .ram) _ rest in
-    (same-processor-equal p (m .processor) processor, first, same-equal _ _ second)
+    (same-processor-equal p (m .processor) processor, same-timer-equal t (m .timer) timer, first, same-equal _ _ second)

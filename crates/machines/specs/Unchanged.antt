@@ -5,6 +5,7 @@ use Prim.Native.Nat.{ℕ}
 use lib.Dec.{eqb}
 use Rattle.words.specs.Logic.{both}
 use Rattle.bytes.specs.Same.{same}
+use Rattle.timer.specs.declared.Timer.{Timer}
 use Rattle.processor.specs.declared.Processor.{Processor}
 use Rattle.machine.specs.Machine.{Machine}
 use Rattle.run_loop.specs.Run.{Outcome, request, runOf}
@@ -21,15 +22,23 @@ unfoldable pub sameTlb : Processor → Processor → Bool
 sameTlb p q =
     both (same (p .tlbhigh) (q .tlbhigh)) (both (same (p .tlblow) (q .tlblow)) (eqb (p .replacement) (q .replacement)))
 
--- the five items of the machine record
+-- the first five items of the machine record
 unfoldable pub sameProcessor : Processor → Processor → Bool
 sameProcessor p q =
     both (same (p .registers) (q .registers)) (both (eqb (p .pc) (q .pc)) (both (sameSpecial p q) (sameTlb p q)))
 
--- the processor, RAM and belt; no call writes the ROM
-unfoldable pub sameMachine : Processor → List ℕ → List ℕ → Machine → Bool
-sameMachine p ram belt m =
-    both (sameProcessor p (m .processor)) (both (same ram (m .memory .ram)) (same belt (m .memory .belt)))
+-- and the sixth
+unfoldable pub sameTimer : Timer → Timer → Bool
+sameTimer t u =
+    both (eqb (t .divisor) (u .divisor)) (both (eqb (t .counter) (u .counter)) (eqb (t .control) (u .control)))
+
+unfoldable pub sameState : Processor → Timer → Processor → Timer → Bool
+sameState p t q u = both (sameProcessor p q) (sameTimer t u)
+
+-- the processor, the timer, RAM and belt; no call writes the ROM
+unfoldable pub sameMachine : Processor → Timer → List ℕ → List ℕ → Machine → Bool
+sameMachine p t ram belt m =
+    both (sameState p t (m .processor) (m .timer)) (both (same ram (m .memory .ram)) (same belt (m .memory .belt)))
 
 -- a run with lines 0
 abbrev pub ran : Bool → Machine → ℕ → Outcome

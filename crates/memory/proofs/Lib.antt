@@ -1,5 +1,6 @@
 -- The laws of `memory`.
 pub mod Places
+pub mod TimerPlaces
 pub mod Outcomes
 pub mod OwnBytes
 pub mod StoreLaws

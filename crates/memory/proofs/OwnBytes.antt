@@ -1,15 +1,16 @@
--- A load depends on its own bytes and on the three lengths alone.
+-- A load depends on its own bytes, the timer and the three lengths alone.
 use mathlib.Core.Path.{_≡_, refl, ap, sym, subst, _∙_}
 use mathlib.Core.List.{List}
 use Prim.Native.Nat.{ℕ, suc, _+_, _-_, _^_, _≤_, _<_}
 use native.Mathlib.Omega.{arith}
 use lib.ListN.{length, getD}
 use Rattle.endian.specs.BigEndian.{readAt}
+use Rattle.timer.specs.declared.Timer as timer
 use Rattle.endian.proofs.Widths.{read-same, read-lt}
 use Rattle.memory.specs.Map.{Memory, locate, placeIn, byteIn, byteAt, romBase, beltBase}
 use Rattle.memory.specs.Access.{readIn, loadOf}
 use Rattle.memory.specs.declared.Place.{Place}
-use Rattle.memory.specs.declared.Place.the-variants.{Ram, Rom, Belt, Nothing}
+use Rattle.memory.specs.declared.Place.the-variants.{Ram, Rom, Belt, Timer, Nothing}
 use Rattle.memory.specs.declared.Loaded.the-variants as loaded
 use Rattle.memory.proofs.Places.{locate-ram, locate-rom, locate-belt, true-within, within-past, within-not, Lies, place-lies}
 use Rattle.memory.proofs.Outcomes.{load-at}
@@ -71,6 +72,7 @@ module _ (m : Memory) (apart : Apart m) where
   Own w a i (Ram at) = byteAt m (a + i) ≡ getD (m .ram) (at + i) 0
   Own w a i (Rom at) = byteAt m (a + i) ≡ getD (m .rom) (at + i) 0
   Own w a i (Belt at) = byteAt m (a + i) ≡ getD (m .belt) (at + i) 0
+  Own w a i (Timer at) = Unit {0}
   Own w a i Nothing = Unit {0}
 
   own-by : (w a i : ℕ) → i < w → (p : Place) → Lies w r o b a p → Own w a i p
@@ -80,20 +82,21 @@ module _ (m : Memory) (apart : Apart m) where
       ap (byteAt m) (omega arith) ∙ byte-rom (at + i) (omega arith)
   own-by w a i hi (Belt at) h =
       ap (byteAt m) (omega arith) ∙ byte-belt (at + i) (omega arith)
+  own-by w a i hi (Timer at) h = tt
   own-by w a i hi Nothing h = tt
 
   pub own : (w a i : ℕ) → i < w → (p : Place) → placeIn w m a ≡ p → Own w a i p
   own w a i hi p e = own-by w a i hi p (place-lies w r o b a p e)
 
-module _ (m n : Memory) (apart : Apart m) (apart′ : Apart n) (lengths : SameLengths m n) where
+module _ (m n : Memory) (apart : Apart m) (apart′ : Apart n) (lengths : SameLengths m n) (t : timer.Timer) where
   -- two memories of the same lengths that agree in the w bytes from an address give the same there
-  pub load-same : (w a : ℕ) → ((i : ℕ) → i < w → byteAt m (a + i) ≡ byteAt n (a + i)) → loadOf w m a ≡ loadOf w n a
+  pub load-same : (w a : ℕ) → ((i : ℕ) → i < w → byteAt m (a + i) ≡ byteAt n (a + i)) → loadOf w t m a ≡ loadOf w t n a
   load-same w a same = go (placeIn w m a) refl
     where
       also : {p : Place} → placeIn w m a ≡ p → placeIn w n a ≡ p
       also e = sym (same-place m n lengths w a) ∙ e
 
-      reads : (p : Place) → placeIn w m a ≡ p → readIn w m p ≡ readIn w n p
+      reads : (p : Place) → placeIn w m a ≡ p → readIn w t m p ≡ readIn w t n p
       reads (Ram at) e =
           ap loaded.Value (read-same w (m .ram) (n .ram) at (λ i h.
           sym (own m apart w a i h (Ram at) e) ∙ same i h ∙ own n apart′ w a i h (Ram at) (also e)))
@@ -103,7 +106,8 @@ module _ (m n : Memory) (apart : Apart m) (apart′ : Apart n) (lengths : SameLe
       reads (Belt at) e =
           ap loaded.Value (read-same w (m .belt) (n .belt) at (λ i h.
           sym (own m apart w a i h (Belt at) e) ∙ same i h ∙ own n apart′ w a i h (Belt at) (also e)))
+      reads (Timer at) e = refl
       reads Nothing e = refl
 
-      go : (p : Place) → placeIn w m a ≡ p → loadOf w m a ≡ loadOf w n a
-      go p e = load-at w m a p e ∙ reads p e ∙ sym (load-at w n a p (also e))
+      go : (p : Place) → placeIn w m a ≡ p → loadOf w t m a ≡ loadOf w t n a
+      go p e = load-at w t m a p e ∙ reads p e ∙ sym (load-at w t n a p (also e))

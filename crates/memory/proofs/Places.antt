@@ -8,9 +8,9 @@ use borrow.Author.Tests.{leb-true, leb-false, le-leb, lt-leb, eqb-true, eq-eqb, 
 use Rattle.words.proofs.Cases.{case}
 use Rattle.words.specs.Logic.{both}
 use Rattle.words.proofs.Conjunction.{both-true}
-use Rattle.memory.specs.Map.{within, locate, wordsOnly, placeOf, romBase, beltBase}
+use Rattle.memory.specs.Map.{within, registerAt, locate, wordsOnly, placeOf, romBase, beltBase, timerBase}
 use Rattle.memory.specs.declared.Place.{Place}
-use Rattle.memory.specs.declared.Place.the-variants.{Ram, Rom, Belt, Nothing}
+use Rattle.memory.specs.declared.Place.the-variants.{Ram, Rom, Belt, Timer, Nothing}
 
 -- ---- within
 
@@ -50,10 +50,10 @@ module _ (w r o b a : ℕ) where
   unfolding locate
   locate-belt h k l = simp (h, k, l)
 
-  pub locate-nothing : within 0 r w a ≡ false → within romBase o w a ≡ false → within beltBase b w a ≡ false
-      → locate w r o b a ≡ Nothing
+  pub locate-register : within 0 r w a ≡ false → within romBase o w a ≡ false → within beltBase b w a ≡ false
+      → locate w r o b a ≡ registerAt w a
   unfolding locate
-  locate-nothing h k l = simp (h, k, l)
+  locate-register h k l = simp (h, k, l)
 
   pub place-by : {p : Place} → locate w r o b a ≡ p → placeOf w r o b a ≡ wordsOnly w p
   unfolding placeOf
@@ -65,6 +65,53 @@ word-belt w at e = simp (eq-eqb w 4 e)
 pub narrow-belt : (w at : ℕ) → (w ≡ 4 → ⊥) → wordsOnly w (Belt at) ≡ Nothing
 narrow-belt w at e = simp (ne-eqb w 4 e)
 
+-- ---- the timer's registers
+
+-- a place that is the timer's or nothing, for words alone
+abbrev pub OfTimer : ℕ → ℕ → Place → Type 0
+OfTimer w a (Ram at) = ⊥
+OfTimer w a (Rom at) = ⊥
+OfTimer w a (Belt at) = ⊥
+OfTimer w a (Timer at) = (w ≡ 4) × (at ≤ 4) × (timerBase + at ≡ a)
+OfTimer w a Nothing = Unit {0}
+
+pub of-timer : (w a : ℕ) → OfTimer w a (registerAt w a)
+unfolding registerAt
+of-timer w a =
+    case (OfTimer w a) (eqb w 4)
+    (λ t. case (OfTimer w a) (eqb a 0x30000000)
+    (λ e. (eqb-true w 4 t, omega arith, sym (eqb-true a 0x30000000 e)))
+    (λ _. case (OfTimer w a) (eqb a 0x30000004)
+    (λ e. (eqb-true w 4 t, omega arith, sym (eqb-true a 0x30000004 e)))
+    (λ _. tt)))
+    (λ _. tt)
+
+-- they are words already
+pub register-place : (w a : ℕ) (p : Place) → OfTimer w a p → wordsOnly w p ≡ p
+register-place w a (Ram at) h = absurd h
+register-place w a (Rom at) h = absurd h
+register-place w a (Belt at) h = absurd h
+register-place w a (Timer at) h = refl
+register-place w a Nothing h = refl
+
+-- as the code tests them
+module _ (w a : ℕ) where
+  pub narrow-register : (w ≡ 4 → ⊥) → registerAt w a ≡ Nothing
+  unfolding registerAt
+  narrow-register n = simp (ne-eqb w 4 n)
+
+  pub control-register : w ≡ 4 → a ≡ 0x30000000 → registerAt w a ≡ Timer 0
+  unfolding registerAt
+  control-register e h = simp (eq-eqb w 4 e, eq-eqb a 0x30000000 h)
+
+  pub divisor-register : w ≡ 4 → (a ≡ 0x30000000 → ⊥) → a ≡ 0x30000004 → registerAt w a ≡ Timer 4
+  unfolding registerAt
+  divisor-register e n h = simp (eq-eqb w 4 e, ne-eqb a 0x30000000 n, eq-eqb a 0x30000004 h)
+
+  pub no-register : w ≡ 4 → (a ≡ 0x30000000 → ⊥) → (a ≡ 0x30000004 → ⊥) → registerAt w a ≡ Nothing
+  unfolding registerAt
+  no-register e n k = simp (eq-eqb w 4 e, ne-eqb a 0x30000000 n, ne-eqb a 0x30000004 k)
+
 -- ---- the address and the lengths, by the place
 
 -- the w bytes lie in what the place names, at its offset
@@ -72,9 +119,17 @@ abbrev pub Lies : ℕ → ℕ → ℕ → ℕ → ℕ → Place → Type 0
 Lies w r o b a (Ram at) = (at ≡ a) × (at + w ≤ r)
 Lies w r o b a (Rom at) = (romBase + at ≡ a) × (at + w ≤ o)
 Lies w r o b a (Belt at) = (beltBase + at ≡ a) × (at + w ≤ b)
+Lies w r o b a (Timer at) = (w ≡ 4) × (at ≤ 4) × (timerBase + at ≡ a)
 Lies w r o b a Nothing = Unit {0}
 
 module _ (w r o b a : ℕ) where
+  register-lies : (p : Place) → OfTimer w a p → Lies w r o b a p
+  register-lies (Ram at) h = absurd h
+  register-lies (Rom at) h = absurd h
+  register-lies (Belt at) h = absurd h
+  register-lies (Timer at) h = h
+  register-lies Nothing h = tt
+
   pub lies : Lies w r o b a (locate w r o b a)
   unfolding locate
   lies =
@@ -84,12 +139,13 @@ module _ (w r o b a : ℕ) where
       (λ t. let h = within-true romBase o w a t in (omega arith, omega arith))
       (λ _. case (Lies w r o b a) (within beltBase b w a)
       (λ t. let h = within-true beltBase b w a t in (omega arith, omega arith))
-      (λ _. tt)))
+      (λ _. register-lies (registerAt w a) (of-timer w a))))
 
   words-only-lies : (p : Place) → Lies w r o b a p → Lies w r o b a (wordsOnly w p)
   words-only-lies (Ram at) h = h
   words-only-lies (Rom at) h = h
   words-only-lies (Belt at) h = case (Lies w r o b a) (eqb w 4) (λ _. h) (λ _. tt)
+  words-only-lies (Timer at) h = h
   words-only-lies Nothing h = h
 
   -- what the place of an access tells
@@ -101,9 +157,21 @@ module _ (w r o b a : ℕ) where
   not-belt n at (Ram x) e = let z : _≡_ {A = ℕ} 0 1 = cc in omega arith
   not-belt n at (Rom x) e = let z : _≡_ {A = ℕ} 0 1 = cc in omega arith
   not-belt n at (Belt x) e = let z : _≡_ {A = ℕ} 0 1 = cc (simp (ne-eqb w 4 n) at e) in omega arith
+  not-belt n at (Timer x) e = let z : _≡_ {A = ℕ} 0 1 = cc in omega arith
   not-belt n at Nothing e = let z : _≡_ {A = ℕ} 0 1 = cc in omega arith
 
   -- a belt register answers words alone
   pub belt-answers-words : (w ≡ 4 → ⊥) → (at : ℕ) → placeOf w r o b a ≡ Belt at → ⊥
   unfolding placeOf
   belt-answers-words n at e = not-belt n at (locate w r o b a) e
+
+  -- and so does the timer
+  pub timer-answers-words : (w ≡ 4 → ⊥) → (at : ℕ) → placeOf w r o b a ≡ Timer at → ⊥
+  timer-answers-words n at e = n (place-lies (Timer at) e .0)
+
+-- past RAM, ROM and belt, as the code tests the timer's registers
+pub at-register : (w r o b a : ℕ) {x y z : Bool} {p : Place} → x ≡ within 0 r w a → x ≡ false → y ≡ within romBase o w a → y ≡ false
+    → z ≡ within beltBase b w a → z ≡ false → registerAt w a ≡ p → p ≡ placeOf w r o b a
+at-register w r o b a e f g h k l place =
+    sym (place-by w r o b a (locate-register w r o b a (sym e ∙ f) (sym g ∙ h) (sym k ∙ l))
+    ∙ register-place w a (registerAt w a) (of-timer w a) ∙ place)

@@ -1,5 +1,6 @@
-// Physical memory: which of RAM, ROM and the belt registers answers at an address, and what a load and a store answer.
+// Physical memory: which of RAM, ROM, the belt registers and the timer answers at an address, and what a load and a store answer.
 
+use timer::Timer;
 ghost use mathlib.Core.Path.{_≡_};
 ghost use Rattle.memory.specs.Map.{within, placeOf};
 
@@ -7,11 +8,16 @@ const ROM_BASE: u32 = 0x2000_0000;
 
 const BELT_BASE: u32 = 0x3050_0000;
 
+const TIMER_CONTROL: u32 = 0x3000_0000;
+
+const TIMER_DIVISOR: u32 = 0x3000_0004;
+
 // Where an access goes, with its offset there.
 pub enum Place {
     Ram(u32),
     Rom(u32),
     Belt(u32),
+    Timer(u32),
     Nothing,
 }
 
@@ -49,6 +55,15 @@ pub fn place_of(width: u32, ram: usize, rom: usize, belt: usize, address: u32) -
             return Place::Belt(address - BELT_BASE);
         }
         return Place::Nothing;
+    }
+    if width != 4 {
+        return Place::Nothing;
+    }
+    if address == TIMER_CONTROL {
+        return Place::Timer(Timer::CONTROL);
+    }
+    if address == TIMER_DIVISOR {
+        return Place::Timer(Timer::DIVISOR);
     }
     Place::Nothing
 }

@@ -8,6 +8,7 @@ use native.Mathlib.Nat.{add-zero}
 use lib.ListN.{length, getD, drop}
 use lib.Seq.{getD-take, getD-drop}
 use Rattle.endian.specs.BigEndian.{readAt}
+use Rattle.timer.specs.declared.Timer.{Timer}
 use Rattle.memory.specs.Map.{Memory, memory, placeIn}
 use Rattle.memory.specs.Access.{loadOf}
 use Rattle.memory.specs.declared.Place.the-variants.{Ram}
@@ -29,15 +30,15 @@ unfolding readAt
 one-byte s at = rw (add-zero at) (omega arith)
 
 -- a load of one byte in RAM
-load-ram : (m : Memory) (a : ℕ) → a < length (m .ram) → loadOf 1 m a ≡ loaded.Value (getD (m .ram) a 0)
-load-ram m a h = load-at 1 m a (Ram a) place ∙ ap loaded.Value (one-byte (m .ram) a)
+load-ram : (t : Timer) (m : Memory) (a : ℕ) → a < length (m .ram) → loadOf 1 t m a ≡ loaded.Value (getD (m .ram) a 0)
+load-ram t m a h = load-at 1 t m a (Ram a) place ∙ ap loaded.Value (one-byte (m .ram) a)
   where
     place : placeIn 1 m a ≡ Ram a
     place =
         place-by 1 (length (m .ram)) (length (m .rom)) (length (m .belt)) a
         (locate-ram 1 (length (m .ram)) (length (m .rom)) (length (m .belt)) a (true-within 0 (length (m .ram)) 1 a (omega arith) (omega arith)))
 
-module _ (ram rom belt : List ℕ) (p : Processor) (page psw : ℕ) (kernel : userMode psw ≡ false) (ok : viewRefusal ram p page ≡ 0) where
+module _ (ram rom belt : List ℕ) (t : Timer) (p : Processor) (page psw : ℕ) (kernel : userMode psw ≡ false) (ok : viewRefusal ram p page ≡ 0) where
   part-byte : (i : ℕ) → i < 4096 → getD (viewPart ram p page) i 0 ≡ getD ram (viewOf ram p page .offset + i) 0
   part-byte i h =
       ap (λ (l : List ℕ). getD l i 0) (part-is ram p page ok)
@@ -45,18 +46,18 @@ module _ (ram rom belt : List ℕ) (p : Processor) (page psw : ℕ) (kernel : us
       ∙ getD-drop (viewOf ram p page .offset) ram i 0
 
   pub load-agrees : (i : ℕ) → i < 4096
-      → readFrom 1 (surroundings psw (p .tlbhigh) (p .tlblow) (memory ram rom belt)) (page * 4096 + i)
+      → readFrom 1 (surroundings psw (p .tlbhigh) (p .tlblow) t (memory ram rom belt)) (page * 4096 + i)
       ≡ Value (getD (viewPart ram p page) i 0)
   unfolding readFrom
   load-agrees i h =
       let w = whole ram p page ok in
-      ap (readThrough 1 (memory ram rom belt)) (frame-byte p page _ (first-byte ram p page ok) psw i kernel h)
-      ∙ ap answered (load-ram (memory ram rom belt) (viewOf ram p page .offset + i) (omega arith))
+      ap (readThrough 1 t (memory ram rom belt)) (frame-byte p page _ (first-byte ram p page ok) psw i kernel h)
+      ∙ ap answered (load-ram t (memory ram rom belt) (viewOf ram p page .offset + i) (omega arith))
       ∙ ap Value (sym (part-byte i h))
 
   -- so the load of no byte of the page faults, and a page where one would is refused
   pub no-fault : (i eid : ℕ) → i < 4096
-      → readFrom 1 (surroundings psw (p .tlbhigh) (p .tlblow) (memory ram rom belt)) (page * 4096 + i) ≡ Fault eid → ⊥
+      → readFrom 1 (surroundings psw (p .tlbhigh) (p .tlblow) t (memory ram rom belt)) (page * 4096 + i) ≡ Fault eid → ⊥
   no-fault i eid h e =
       let clash = sym (load-agrees i h) ∙ e in
       let z : _≡_ {A = ℕ} 0 1 = cc in

@@ -6,6 +6,7 @@ use lib.Dec.{leb, ltb, eqb}
 use lib.ListN.{length}
 use Rattle.words.specs.Logic.{both}
 use Rattle.translation.specs.Translation.{translated, resolved, physicalOf}
+use Rattle.processor.specs.State.{fit}
 use Rattle.processor.specs.declared.Processor.{Processor}
 use Rattle.translation.specs.declared.Translation.{Translation}
 use Rattle.refusals.specs.Refusal.{Test, firstFailed, ramTest, fitTest, frameTest}
@@ -31,7 +32,7 @@ hasFrame n p page = both (leb page 0xFFFFF) (inRam n (lookedUp p page))
 -- ---- the answer
 
 abbrev pub viewTests : List ℕ → Processor → ℕ → List Test
-viewTests ram p page = ramTest (length ram) ∷ fitTest p ∷ frameTest (hasFrame (length ram) p page) ∷ []
+viewTests ram p page = ramTest (length ram) ∷ fitTest (fit p) ∷ frameTest (hasFrame (length ram) p page) ∷ []
 
 unfoldable pub viewRefusal : List ℕ → Processor → ℕ → ℕ
 viewRefusal ram p page = firstFailed (viewTests ram p page)

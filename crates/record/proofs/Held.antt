@@ -1,4 +1,4 @@
--- The processor that bytes hold is a value of the code's type, whether they are a record or not.
+-- The processor and the timer that bytes hold are values of the code's types, whether they are a record or not.
 use mathlib.Core.List.{List}
 use Prim.Native.Nat.{ℕ, _^_, _<_}
 use native.Mathlib.Omega.{arith}
@@ -6,7 +6,9 @@ use lib.ListN.{getD}
 use Rattle.endian.specs.BigEndian.{readAt}
 use Rattle.endian.proofs.Widths.{read-lt}
 use Rattle.arrays.proofs.ReadLaws.{words-count, words-lt}
-use Rattle.record_layout.specs.Record.{processorOf}
+use Rattle.words.proofs.Cases.{chosen}
+use Rattle.timer.specs.Timer.{timerAtReset, TimerWords}
+use Rattle.record_layout.specs.Record.{timerless, processorOf, timerOf}
 use Rattle.record.proofs.WrittenRead.{Value}
 
 module _ (s : List ℕ) (h : (j : ℕ) → getD s j 0 < 256) where
@@ -29,3 +31,10 @@ module _ (s : List ℕ) (h : (j : ℕ) → getD s j 0 < 256) where
         lows = words-lt s h 8 32 _;
         replacement = omega (arith, read-lt 1 s 413 h);
       }
+
+  pub held-timer : TimerWords (timerOf s)
+  unfolding timerOf timerAtReset
+  held-timer =
+      chosen TimerWords (timerless s)
+      (record { divisor = omega arith; counter = omega arith; control = omega arith })
+      (record { divisor = word 415; counter = word 419; control = omega (arith, read-lt 1 s 423 h) })

@@ -1,20 +1,24 @@
 -- A machine written and read is the same machine.
-use mathlib.Core.Path.{_≡_, ap, sym, _∙_}
+use mathlib.Core.Path.{_≡_, ap, ap₂, sym, _∙_}
 use mathlib.Core.Bool.{true}
 use mathlib.Core.List.{List, [], _∷_, _++_, append-assoc}
-use Prim.Native.Nat.{ℕ, zero, suc, _+_, _*_, _^_, _<_}
+use Prim.Native.Nat.{ℕ, zero, suc, _+_, _*_, _^_, _≤_, _<_}
 use native.Mathlib.Omega.{arith}
 use lib.ListN.{length, getD, drop}
+use lib.Seq.{drop-at}
+use Rattle.endian.specs.BigEndian.{readAt}
+use Rattle.timer.specs.Timer.{TimerWords}
+use Rattle.timer.specs.declared.Timer.{Timer}
 use Rattle.processor.specs.declared.Processor.{Processor}
-use Rattle.processor.specs.State.{fit}
+use Rattle.machine.specs.Machine.{fitWith}
 use Rattle.arrays.specs.Numbers.{bytesOf, wordBytes, pairBytes, wordsAt}
-use Rattle.record_layout.specs.Record.{recordOf, processorOf}
-use Rattle.record.specs.Calls.{readRefusal, processorRead, bufferAfter}
+use Rattle.record_layout.specs.Record.{processorItems, timerItem, recordOf, processorOf, timerOf}
+use Rattle.record.specs.Calls.{readRefusal, processorRead, timerRead, bufferAfter}
 use Rattle.record_layout.proofs.KindLaws.{Kinds, means-kinds}
 use Rattle.arrays.proofs.WriteLaws.{bytes-length, words-length, pairs-length}
-use Rattle.record_layout.proofs.Written.{Arrays, specials, one-byte, record-length}
-use Rattle.record_layout.proofs.Fields.{fields-read}
-use Rattle.record.proofs.Answers.{read-accepted, write-accepted}
+use Rattle.record_layout.proofs.Written.{Arrays, specials, one-byte, items-length, record-length}
+use Rattle.record_layout.proofs.Fields.{fields-read, timer-read}
+use Rattle.record.proofs.Answers.{readable-whole, read-accepted, write-accepted}
 use Rattle.arrays.proofs.ReadLaws.{past, number-read, byte-read, words-read, pairs-read}
 
 -- a value of the code's type: 32 words in each array, and every number below 2 ^ 32
@@ -40,21 +44,23 @@ module _ (p : Processor) (v : Value p) where
   special-lt (suc (suc (suc (suc zero)))) = v .badaddress
   special-lt (suc (suc (suc (suc (suc i))))) = omega arith
 
-  laid-out : recordOf p
+  -- the items, and whatever stands after them
+  laid-out : (r : List ℕ) → processorItems p ++ r
       ≡ bytesOf 1 1 ++ (wordBytes (p .registers)
       ++ (bytesOf 1 2 ++ (bytesOf 4 (p .pc)
       ++ (bytesOf 1 3 ++ (wordBytes (specials p)
       ++ (bytesOf 1 4 ++ (pairBytes (p .tlbhigh) (p .tlblow)
-      ++ (bytesOf 1 5 ++ (p .replacement ∷ [])))))))))
-  unfolding recordOf
-  laid-out = simp (append-assoc, one-byte 1, one-byte 2, one-byte 3, one-byte 4, one-byte 5)
+      ++ (bytesOf 1 5 ++ (p .replacement ∷ r)))))))))
+  unfolding processorItems
+  laid-out r = simp (append-assoc, one-byte 1, one-byte 2, one-byte 3, one-byte 4, one-byte 5)
 
-  -- what a record holds, field by field
-  pub holds : Kinds (recordOf p) × (processorOf (recordOf p) ≡ p)
+  -- what they hold, field by field
+  items-hold : (r : List ℕ) → (424 ≤ length (processorItems p ++ r) → readAt 1 (processorItems p ++ r) 414 ≡ 6)
+      → Kinds (processorItems p ++ r) × (processorOf (processorItems p ++ r) ≡ p)
   unfolding wordsAt
-  holds =
-      let s : List ℕ = recordOf p in
-      let r9 : List ℕ = p .replacement ∷ [] in
+  items-hold r kind =
+      let s : List ℕ = processorItems p ++ r in
+      let r9 : List ℕ = p .replacement ∷ r in
       let r8 : List ℕ = bytesOf 1 5 ++ r9 in
       let r7 : List ℕ = pairBytes (p .tlbhigh) (p .tlblow) ++ r8 in
       let r6 : List ℕ = bytesOf 1 4 ++ r7 in
@@ -63,7 +69,7 @@ module _ (p : Processor) (v : Value p) where
       let r3 : List ℕ = bytesOf 4 (p .pc) ++ r4 in
       let r2 : List ℕ = bytesOf 1 2 ++ r3 in
       let r1 : List ℕ = wordBytes (p .registers) ++ r2 in
-      let e0 : drop 0 s ≡ bytesOf 1 1 ++ r1 = laid-out in
+      let e0 : drop 0 s ≡ bytesOf 1 1 ++ r1 = laid-out r in
       let e1 : drop 1 s ≡ r1 = past s (bytesOf 1 1) r1 0 1 e0 (bytes-length 1 1) in
       let n1 : length (wordBytes (p .registers)) ≡ 128 = words-length (p .registers) ∙ ap (λ (n : ℕ). n * 4) (v .arrays .registers) in
       let e2 : drop 129 s ≡ r2 = past s (wordBytes (p .registers)) r2 1 128 e1 n1 in
@@ -86,6 +92,7 @@ module _ (p : Processor) (v : Value p) where
           third = number-read s r5 1 134 3 (omega arith) e4;
           fourth = number-read s r7 1 155 4 (omega arith) e6;
           fifth = number-read s r9 1 412 5 (omega arith) e8;
+          sixth = kind;
         },
         sym
             (fields-read s
@@ -98,19 +105,47 @@ module _ (p : Processor) (v : Value p) where
             (sym (ap (λ (l : List ℕ). getD l 2 0) special))
             (sym (ap (λ (l : List ℕ). getD l 3 0) special))
             (sym (ap (λ (l : List ℕ). getD l 4 0) special))
-            (sym (byte-read s [] 413 (p .replacement) e9))),
+            (sym (byte-read s r 413 (p .replacement) e9))),
       )
 
-  pub written-read : fit p ≡ true → (readRefusal (recordOf p) ≡ 0) × (processorRead (recordOf p) ≡ p)
-  written-read f =
-      let held = holds in
-      let answer = read-accepted (recordOf p) (record-length p (v .arrays)) (means-kinds (recordOf p) (held .0)) (ap fit (held .1) ∙ f) in
-      (sym (answer .0), sym (answer .1) ∙ held .1)
+module _ (p : Processor) (t : Timer) (v : Value p) (w : TimerWords t) where
+  -- what a record holds
+  timer-laid : drop 414 (recordOf p t) ≡ bytesOf 1 6 ++ (bytesOf 4 (t .divisor) ++ (bytesOf 4 (t .counter) ++ (t .control ∷ [])))
+  unfolding recordOf timerItem wordBytes
+  timer-laid = drop-at (processorItems p) (timerItem t) 414 (items-length p (v .arrays)) ∙ simp (append-assoc, one-byte 6)
 
-  -- through any buffer of 414 bytes
-  pub written-read-through : fit p ≡ true → (t : List ℕ) → length t ≡ 414
-      → (readRefusal (bufferAfter p t) ≡ 0) × (processorRead (bufferAfter p t) ≡ p)
-  written-read-through f t e =
-      let same : bufferAfter p t ≡ recordOf p = sym (write-accepted p t e f .1) in
+  pub holds : Kinds (recordOf p t) × (processorOf (recordOf p t) ≡ p) × (timerOf (recordOf p t) ≡ t)
+  unfolding recordOf
+  holds =
+      let s : List ℕ = recordOf p t in
+      let r12 : List ℕ = t .control ∷ [] in
+      let r11 : List ℕ = bytesOf 4 (t .counter) ++ r12 in
+      let r10 : List ℕ = bytesOf 4 (t .divisor) ++ r11 in
+      let e10 : drop 415 s ≡ r10 = past s (bytesOf 1 6) r10 414 1 timer-laid (bytes-length 1 6) in
+      let e11 : drop 419 s ≡ r11 = past s (bytesOf 4 (t .divisor)) r11 415 4 e10 (bytes-length 4 (t .divisor)) in
+      let e12 : drop 423 s ≡ r12 = past s (bytesOf 4 (t .counter)) r12 419 4 e11 (bytes-length 4 (t .counter)) in
+      let items = items-hold p v (timerItem t) (λ _. number-read s r10 1 414 6 (omega arith) timer-laid) in (
+        items .0,
+        items .1,
+        sym
+            (timer-read s (omega (arith, record-length t p (v .arrays)))
+            (sym (number-read s r11 4 415 (t .divisor) (w .divisor) e10))
+            (sym (number-read s r12 4 419 (t .counter) (w .counter) e11))
+            (sym (byte-read s [] 423 (t .control) e12))),
+      )
+
+  pub written-read : fitWith p t ≡ true → (readRefusal (recordOf p t) ≡ 0) × (processorRead (recordOf p t) ≡ p) × (timerRead (recordOf p t) ≡ t)
+  written-read f =
+      let s : List ℕ = recordOf p t in
+      let held = holds in
+      let whole = readable-whole s (record-length t p (v .arrays)) in
+      let answer = read-accepted s whole (means-kinds s (held .0)) (ap₂ fitWith (held .1) (held .2) ∙ f) in
+      (sym (answer .0), sym (answer .1) ∙ held .1, sym (answer .2) ∙ held .2)
+
+  -- through any buffer of 424 bytes
+  pub written-read-through : fitWith p t ≡ true → (s : List ℕ) → length s ≡ 424
+      → (readRefusal (bufferAfter p t s) ≡ 0) × (processorRead (bufferAfter p t s) ≡ p) × (timerRead (bufferAfter p t s) ≡ t)
+  written-read-through f s e =
+      let same : bufferAfter p t s ≡ recordOf p t = sym (write-accepted p t s e f .1) in
       let back = written-read f in
-      (ap readRefusal same ∙ back .0, ap processorRead same ∙ back .1)
+      (ap readRefusal same ∙ back .0, ap processorRead same ∙ back .1, ap timerRead same ∙ back .2)

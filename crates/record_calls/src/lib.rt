@@ -1,6 +1,7 @@
 // Calls with the machine as its record: reset, the copy that reading and writing are, and the page view.
 use page_view::View;
 use processor::Processor;
+use timer::Timer;
 ghost use mathlib.Core.Path.{_≡_};
 ghost use Rattle.record_calls.specs.Records.{resetRefusal, resetBuffer, copyRefusal, copyBuffer};
 ghost use Rattle.page_view.specs.View.{viewed};
@@ -11,10 +12,10 @@ pub fn reset(machine: &mut [u8]) -> u32
     ensures refusal { λ r. ⌜ r ≡ resetRefusal (now (machine .entry)) ⌝ }
     ensures buffer { λ r. ⌜ now (machine .exit) ≡ resetBuffer (now (machine .entry)) ⌝ }
 {
-    if machine.len() != record::LENGTH {
+    if machine.len() != record_layout::LENGTH {
         return refusals::RECORD_LENGTH;
     }
-    record_layout::put(Processor::reset(), machine);
+    record_layout::put(Processor::reset(), Timer::reset(), machine);
     refusals::ACCEPTED
 }
 
@@ -23,17 +24,14 @@ pub fn copy(from: &[u8], buffer: &mut [u8]) -> u32
     ensures refusal { λ r. ⌜ r ≡ copyRefusal (now (from .entry)) (now (buffer .entry)) ⌝ }
     ensures buffer { λ r. ⌜ now (buffer .exit) ≡ copyBuffer (now (from .entry)) (now (buffer .entry)) ⌝ }
 {
-    if from.len() != record::LENGTH {
-        return refusals::RECORD_LENGTH;
-    }
-    if buffer.len() != record::LENGTH {
+    if buffer.len() != record_layout::LENGTH {
         return refusals::RECORD_LENGTH;
     }
     let reading = record::read(from);
     if reading.refusal != refusals::ACCEPTED {
         return reading.refusal;
     }
-    record_layout::put(reading.processor, buffer);
+    record_layout::put(reading.processor, reading.timer, buffer);
     refusals::ACCEPTED
 }
 

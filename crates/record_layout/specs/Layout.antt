@@ -1,8 +1,12 @@
--- Where the kind bytes and the numbers stand in the machine record, and its length (document 01, "What the host lends").
+-- Where the kind bytes and the numbers stand in the machine record, and its lengths (document 01, "What the host lends"; document 02, job 1).
 use Prim.Native.Nat.{ℕ}
 
 abbrev pub recordLength : ℕ
-recordLength = 414
+recordLength = 424
+
+-- of a record without the timer: still read, and never written
+abbrev pub oldLength : ℕ
+oldLength = 414
 
 -- ---- the kind bytes
 
@@ -20,6 +24,9 @@ tlbKindAt = 155
 
 abbrev pub replacementKindAt : ℕ
 replacementKindAt = 412
+
+abbrev pub timerKindAt : ℕ
+timerKindAt = 414
 
 -- ---- the numbers
 
@@ -52,3 +59,12 @@ tlbLowAt = 160
 
 abbrev pub replacementAt : ℕ
 replacementAt = 413
+
+abbrev pub timerDivisorAt : ℕ
+timerDivisorAt = 415
+
+abbrev pub timerCounterAt : ℕ
+timerCounterAt = 419
+
+abbrev pub timerControlAt : ℕ
+timerControlAt = 423

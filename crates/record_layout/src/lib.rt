@@ -1,9 +1,21 @@
-// The layout of the machine record: where its kind bytes and numbers stand, and a processor got from it and put into it.
+// The layout of the machine record: where its kind bytes and numbers stand, and a processor and its timer got from it and put into it.
 use processor::Processor;
+use timer::Timer;
 ghost use mathlib.Core.Path.{_≡_};
 ghost use lib.ListN.{length};
-ghost use Rattle.record_layout.specs.Record.{kindsInPlace, processorOf, recordOf};
-ghost use Prim.Native.Nat.{_<_};
+ghost use mathlib.Core.List.{_++_};
+ghost use lib.Dec.{eqb};
+ghost use lib.ListN.{drop, take};
+ghost use Prim.Native.Nat.{_<_, _≤_};
+ghost use Rattle.words.specs.Logic.{either};
+ghost use Rattle.endian.specs.BigEndian.{readAt};
+ghost use Rattle.record_layout.specs.Layout.{timerKindAt};
+ghost use Rattle.record_layout.specs.Record.{timerless, kindsInPlace, processorOf, timerOf, processorItems, timerItem, recordOf};
+
+// Of a record with its timer, and of one without it, which is still read.
+pub const LENGTH: usize = 424;
+
+pub const OLD_LENGTH: usize = 414;
 
 // Where the kind bytes stand.
 pub const REGISTERS_KIND_AT: usize = 0;
@@ -15,6 +27,8 @@ pub const SPECIAL_KIND_AT: usize = 134;
 pub const TLB_KIND_AT: usize = 155;
 
 pub const REPLACEMENT_KIND_AT: usize = 412;
+
+pub const TIMER_KIND_AT: usize = 414;
 
 // Where the numbers stand.
 pub const REGISTERS_AT: usize = 1;
@@ -37,8 +51,24 @@ pub const TLB_LOW_AT: usize = 160;
 
 pub const REPLACEMENT_AT: usize = 413;
 
+pub const DIVISOR_AT: usize = 415;
+
+pub const COUNTER_AT: usize = 419;
+
+pub const CONTROL_AT: usize = 423;
+
+// A record without the timer has no such byte.
+fn timer_kind_in_place(s: &[u8]) -> bool
+    ensures { λ r. ⌜ r ≡ either (timerless (now (s .entry))) (eqb (readAt 1 (now (s .entry)) timerKindAt) 6) ⌝ }
+{
+    if s.len() < LENGTH {
+        return true;
+    }
+    endian::read_byte(s, TIMER_KIND_AT) == 6
+}
+
 pub fn kinds_in_place(s: &[u8]) -> bool
-    requires { ⌜ length (now s) ≡ 414 ⌝ }
+    requires { ⌜ 414 ≤ length (now s) ⌝ }
     ensures { λ r. ⌜ r ≡ kindsInPlace (now (s .entry)) ⌝ }
 {
     (endian::read_byte(s, REGISTERS_KIND_AT) == 1)
@@ -46,11 +76,26 @@ pub fn kinds_in_place(s: &[u8]) -> bool
         & (endian::read_byte(s, SPECIAL_KIND_AT) == 3)
         & (endian::read_byte(s, TLB_KIND_AT) == 4)
         & (endian::read_byte(s, REPLACEMENT_KIND_AT) == 5)
+        & timer_kind_in_place(s)
 }
 
-// The processor that 414 bytes hold.
+// The timer of a record, at reset where the record has none.
+pub fn get_timer(s: &[u8]) -> Timer
+    ensures { λ r. ⌜ r ≡ timerOf (now (s .entry)) ⌝ }
+{
+    if s.len() < LENGTH {
+        return Timer::reset();
+    }
+    Timer {
+        divisor: endian::read_word(s, DIVISOR_AT),
+        counter: endian::read_word(s, COUNTER_AT),
+        control: endian::read_byte(s, CONTROL_AT),
+    }
+}
+
+// The processor that a record holds.
 pub fn get(s: &[u8]) -> Processor
-    requires { ⌜ length (now s) ≡ 414 ⌝ }
+    requires { ⌜ 414 ≤ length (now s) ⌝ }
     ensures { λ r. ⌜ r ≡ processorOf (now (s .entry)) ⌝ }
 {
     let mut registers = [0u32; 32];
@@ -73,10 +118,10 @@ pub fn get(s: &[u8]) -> Processor
     }
 }
 
-// The 414 bytes of a processor, into a buffer of that length.
-pub fn put(p: Processor, s: &mut [u8])
-    requires { ⌜ (length (now s) ≡ 414) × (p .replacement < 256) ⌝ }
-    ensures { λ r. ⌜ now (s .exit) ≡ recordOf p ⌝ }
+// The items of a processor, into the first 414 bytes of a record.
+fn put_processor(p: Processor, s: &mut [u8])
+    requires { ⌜ (length (now s) ≡ 424) × (p .replacement < 256) ⌝ }
+    ensures { λ r. ⌜ now (s .exit) ≡ processorItems p ++ drop 414 (now (s .entry)) ⌝ }
 {
     let specials = [p.psw, p.index, p.entryhigh, p.entrylow, p.badaddress];
     endian::write_byte(s, REGISTERS_KIND_AT, 1);
@@ -90,4 +135,24 @@ pub fn put(p: Processor, s: &mut [u8])
     arrays::put_words(s, TLB_LOW_AT, 8, &p.tlblow);
     endian::write_byte(s, REPLACEMENT_KIND_AT, 5);
     endian::write_byte(s, REPLACEMENT_AT, p.replacement);
+}
+
+// The timer's item, into the last ten.
+fn put_timer(timer: Timer, s: &mut [u8])
+    requires { ⌜ (length (now s) ≡ 424) × (timer .control < 256) ⌝ }
+    ensures { λ r. ⌜ now (s .exit) ≡ take 414 (now (s .entry)) ++ timerItem timer ⌝ }
+{
+    endian::write_byte(s, TIMER_KIND_AT, 6);
+    endian::write_word(s, DIVISOR_AT, timer.divisor);
+    endian::write_word(s, COUNTER_AT, timer.counter);
+    endian::write_byte(s, CONTROL_AT, timer.control);
+}
+
+// The record of a processor and its timer, into a buffer of its length.
+pub fn put(p: Processor, timer: Timer, s: &mut [u8])
+    requires { ⌜ (length (now s) ≡ 424) × (p .replacement < 256) × (timer .control < 256) ⌝ }
+    ensures { λ r. ⌜ now (s .exit) ≡ recordOf p timer ⌝ }
+{
+    put_timer(timer, s);
+    put_processor(p, s);
 }

@@ -1,4 +1,4 @@
--- Every refusal: its number, its cause, and its place in the order (document 01, "What the host lends" and "Refused calls").
+-- Every refusal: its number, its cause, and its place in the order (document 01, "What the host lends" and "Refused calls"; document 02, job 1).
 use mathlib.Core.Bool.{Bool, cond}
 use mathlib.Core.List.{List, [], _∷_, _++_}
 use Prim.Native.Nat.{ℕ, _%_}
@@ -6,9 +6,7 @@ use lib.Dec.{leb, eqb}
 use lib.ListN.{length}
 use Rattle.words.specs.Logic.{both}
 use Rattle.memory.specs.Map.{Memory}
-use Rattle.processor.specs.declared.Processor.{Processor}
-use Rattle.processor.specs.State.{fit}
-use Rattle.machine.specs.Machine.{Machine}
+use Rattle.machine.specs.Machine.{Machine, fitWith}
 
 -- ---- a call's tests
 
@@ -51,7 +49,7 @@ romTest n = test 2 (romAccepted n)
 abbrev pub beltTest : ℕ → Test
 beltTest n = test 3 (beltAccepted n)
 
--- 4: a record, or the buffer for one, has a record's length
+-- 4: a record that is read has either length of a record, and a buffer for one the length that is written
 abbrev pub lengthTest : Bool → Test
 lengthTest whole = test 4 whole
 
@@ -60,8 +58,8 @@ abbrev pub kindsTest : Bool → Test
 kindsTest placed = test 5 placed
 
 -- 6: of a record that is read, and of a machine that is handed to a call
-abbrev pub fitTest : Processor → Test
-fitTest p = test 6 (fit p)
+abbrev pub fitTest : Bool → Test
+fitTest fine = test 6 fine
 
 -- 7
 abbrev pub mostSteps : ℕ
@@ -83,7 +81,7 @@ abbrev pub memoryTests : Memory → List Test
 memoryTests m = lengthsTests (length (m .ram)) (length (m .rom)) (length (m .belt))
 
 abbrev pub runTests : Machine → ℕ → List Test
-runTests m wanted = memoryTests (m .memory) ++ (fitTest (m .processor) ∷ stepsTest wanted ∷ [])
+runTests m wanted = memoryTests (m .memory) ++ (fitTest (fitWith (m .processor) (m .timer)) ∷ stepsTest wanted ∷ [])
 
 unfoldable pub runRefusal : Machine → ℕ → ℕ
 runRefusal m wanted = firstFailed (runTests m wanted)

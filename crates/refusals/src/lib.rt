@@ -1,7 +1,9 @@
 // Every refusal: its number, and the tests that several calls begin with (document 01, "Refused calls").
 use processor::Processor;
+use timer::Timer;
 ghost use mathlib.Core.List.{[], _∷_, _++_};
 ghost use mathlib.Core.Path.{_≡_};
+ghost use Rattle.machine.specs.Machine.{fitWith};
 ghost use Rattle.refusals.specs.Refusal.{firstFailed, pagesUpTo, ramAccepted, fitTest, stepsTest, lengthsTests};
 
 // The numbers that a call answers, in the order of their tests.
@@ -70,14 +72,14 @@ pub fn of_steps(wanted: u64) -> u32
     ACCEPTED
 }
 
-pub fn of_run(p: Processor, ram: usize, rom: usize, belt: usize, wanted: u64) -> u32
-    ensures { λ r. ⌜ r ≡ firstFailed (lengthsTests ram rom belt ++ (fitTest p ∷ stepsTest wanted ∷ [])) ⌝ }
+pub fn of_run(p: Processor, timer: Timer, ram: usize, rom: usize, belt: usize, wanted: u64) -> u32
+    ensures { λ r. ⌜ r ≡ firstFailed (lengthsTests ram rom belt ++ (fitTest (fitWith p timer) ∷ stepsTest wanted ∷ [])) ⌝ }
 {
     let lengths = of_lengths(ram, rom, belt);
     if lengths != ACCEPTED {
         return lengths;
     }
-    if !machine::is_fit(p) {
+    if !machine::is_fit_with(p, timer) {
         return UNFIT;
     }
     of_steps(wanted)

@@ -10,8 +10,7 @@ use borrow.Author.Tests.{eqb-true, eq-eqb, ltb-false}
 use Rattle.words.specs.Logic.{both}
 use Rattle.words.proofs.Cases.{chosen, case}
 use Rattle.words.proofs.Conjunction.{both-true, true-both}
-use Rattle.processor.specs.State.{fit}
-use Rattle.machine.specs.Machine.{Machine}
+use Rattle.machine.specs.Machine.{Machine, fitWith}
 use Rattle.record_layout.specs.Record.{recordOf}
 use Rattle.replay.specs.declared.Counts.{Counts}
 use Rattle.bytes.specs.Same.{same}
@@ -25,18 +24,18 @@ use Rattle.bytes.proofs.SameLaws.{same-equal, numbers-first, lists-first, same-
 
 module _ (x : Expected) (wanted : ℕ) (m : Machine) (eid : ℕ) where
   pub agrees-says : agrees x wanted m eid ≡ true
-      → (eid ≡ wanted) × (fit (m .processor) ≡ true) × (recordOf (m .processor) ≡ x .bytes)
+      → (eid ≡ wanted) × (fitWith (m .processor) (m .timer) ≡ true) × (recordOf (m .processor) (m .timer) ≡ x .bytes)
       × (m .memory .ram ≡ x .memory .ram) × (m .memory .rom ≡ x .memory .rom) × (m .memory .belt ≡ x .memory .belt)
   unfolding agrees recordAgrees memoryAgrees
   agrees-says e =
       let (number, rest) = numbers-first eid wanted _ e in
-      let (bytes, memory) = both-true (both (fit (m .processor)) (same (recordOf (m .processor)) (x .bytes))) _ rest in
-      let (isFit, written) = both-true (fit (m .processor)) _ bytes in
+      let (bytes, memory) = both-true (both (fitWith (m .processor) (m .timer)) (same (recordOf (m .processor) (m .timer)) (x .bytes))) _ rest in
+      let (isFit, written) = both-true (fitWith (m .processor) (m .timer)) _ bytes in
       let (ram, others) = lists-first (m .memory .ram) (x .memory .ram) _ memory in
       let (rom, belt) = lists-first (m .memory .rom) (x .memory .rom) _ others in
       (number, isFit, same-equal _ _ written, ram, rom, same-equal _ _ belt)
 
-  pub says-agrees : eid ≡ wanted → fit (m .processor) ≡ true → recordOf (m .processor) ≡ x .bytes
+  pub says-agrees : eid ≡ wanted → fitWith (m .processor) (m .timer) ≡ true → recordOf (m .processor) (m .timer) ≡ x .bytes
       → m .memory .ram ≡ x .memory .ram → m .memory .rom ≡ x .memory .rom → m .memory .belt ≡ x .memory .belt
       → agrees x wanted m eid ≡ true
   unfolding agrees recordAgrees memoryAgrees

@@ -8,6 +8,7 @@ use denote.Ref.{now}
 use Rattle.words.specs.Logic.{both}
 use Rattle.endian.specs.BigEndian.{readAt}
 use Rattle.memory.specs.Lent.{Lent}
+use Rattle.timer.specs.declared.Timer.{Timer}
 use Rattle.processor.specs.declared.Processor.{Processor}
 use Rattle.machine.specs.Machine.{Machine, machine, before}
 use Rattle.record.specs.Calls.{readRefusal}
@@ -29,22 +30,22 @@ pub record Replay : Type 0 where
 abbrev pub replay : Expected → Machine → Counts → Tallies → Replay
 replay x m c t = record { expected = x; model = m; counts = c; tallies = t }
 
--- the processor that is kept, with other counts
+-- the processor and the timer that are kept, with other counts
 abbrev pub withCounts : Progress → Counts → Progress
-withCounts p c = record { processor = p .processor; counts = c }
+withCounts p c = record { processor = p .processor; timer = p .timer; counts = c }
 
 -- the model's machine as a call left it, where the call may write the ROM
-abbrev pub machineLeft : Processor → Lent → Lent → Lent → Machine
-machineLeft p ram rom belt = machine p (now (ram .exit)) (now (rom .exit)) (now (belt .exit))
+abbrev pub machineLeft : Processor → Timer → Lent → Lent → Lent → Machine
+machineLeft p t ram rom belt = machine p t (now (ram .exit)) (now (rom .exit)) (now (belt .exit))
 
 -- the replay in slices lent to a call, at its entry and at its exit; the slices of the expected machine are named by an x
 abbrev pub replayLent : Progress → Lent → Lent → Lent → Lent → Lent → Lent → Lent → Lent → Lent → Replay
 replayLent p xrecord xram xrom xbelt ram rom belt opcodes exceptions =
-    replay (expectedLent xrecord xram xrom xbelt) (before (p .processor) ram rom belt) (p .counts) (talliesLent opcodes exceptions)
+    replay (expectedLent xrecord xram xrom xbelt) (before (p .processor) (p .timer) ram rom belt) (p .counts) (talliesLent opcodes exceptions)
 
 abbrev pub replayLeft : Progress → Lent → Lent → Lent → Lent → Lent → Lent → Lent → Lent → Lent → Replay
 replayLeft p xrecord xram xrom xbelt ram rom belt opcodes exceptions =
-    replay (expectedLeft xrecord xram xrom xbelt) (machineLeft (p .processor) ram rom belt) (p .counts) (talliesLeft opcodes exceptions)
+    replay (expectedLeft xrecord xram xrom xbelt) (machineLeft (p .processor) (p .timer) ram rom belt) (p .counts) (talliesLeft opcodes exceptions)
 
 -- ---- a command
 

@@ -3,6 +3,7 @@ mod model;
 mod tally;
 
 use processor::Processor;
+use timer::Timer;
 ghost use mathlib.Core.Path.{_≡_};
 ghost use Rattle.replay.specs.Replay.{withCounts, replayLent, replayLeft, commanded, replayed, finished};
 
@@ -27,14 +28,15 @@ const STEP: u32 = 7;
 
 const END: u32 = 8;
 
-// The model's processor, and the counts.
+// The model's processor and timer, and the counts.
 pub struct Progress {
     pub processor: Processor,
+    pub timer: Timer,
     pub counts: Counts,
 }
 
 impl Progress {
-    // The same processor, with other counts.
+    // The same processor and timer, with other counts.
     fn counting(mut self, counts: Counts) -> Self
         ensures { λ r. ⌜ r ≡ withCounts self counts ⌝ }
     {

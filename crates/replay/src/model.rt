@@ -4,6 +4,7 @@ use crate::Progress;
 use crate::tally;
 use access::Read;
 use processor::Processor;
+use timer::Timer;
 ghost use mathlib.Core.Bool.{true, false};
 ghost use mathlib.Core.Path.{_≡_};
 ghost use lib.Dec.{eqb};
@@ -27,7 +28,7 @@ pub fn start(
     xrom: &[u8],
     xbelt: &[u8],
 ) -> Progress
-    ensures state { λ r. ⌜ machineLeft (r .processor) ram rom belt ≡ startedIn (lent ram rom belt) (expectedLent xrecord xram xrom xbelt) ⌝ }
+    ensures state { λ r. ⌜ machineLeft (r .processor) (r .timer) ram rom belt ≡ startedIn (lent ram rom belt) (expectedLent xrecord xram xrom xbelt) ⌝ }
     ensures counts { λ r. ⌜ r .counts ≡ judged false (eqb (readRefusal (now (xrecord .entry))) 0) counts ⌝ }
 {
     bytes::copy(ram, xram);
@@ -35,19 +36,21 @@ pub fn start(
     bytes::copy(belt, xbelt);
     let reading = record::read(xrecord);
     let started = reading.processor;
+    let clock = reading.timer;
     Progress {
         processor: started,
+        timer: clock,
         counts: counts.judge(false, reading.refusal == refusals::ACCEPTED),
     }
 }
 
 // The opcode of the word at the PC, or 64.
-fn opcode_at(p: Processor, ram: &[u8], rom: &[u8], belt: &[u8]) -> u32
-    ensures { λ r. ⌜ r ≡ opcodeAt (before p ram rom belt) ⌝ }
+fn opcode_at(p: Processor, timer: Timer, ram: &[u8], rom: &[u8], belt: &[u8]) -> u32
+    ensures { λ r. ⌜ r ≡ opcodeAt (before p timer ram rom belt) ⌝ }
 {
     let highs = p.tlbhigh;
     let lows = p.tlblow;
-    let fetched = access::read_word(p.psw, &highs, &lows, ram, rom, belt, p.pc);
+    let fetched = access::read_word(p.psw, &highs, &lows, timer, ram, rom, belt, p.pc);
     match fetched {
         Read::Value(word) => word / 0x400_0000,
         Read::Fault(_) => 64,
@@ -80,21 +83,26 @@ pub fn step(
     xbelt: &[u8],
     wanted: u32,
 ) -> Progress
-    ensures state { λ r. ⌜ after (r .processor) ram rom belt ≡ machineAfter (before (progress .processor) ram rom belt) lines ⌝ }
+    ensures state { λ r. ⌜ after (r .processor) (r .timer) ram rom belt
+        ≡ machineAfter (before (progress .processor) (progress .timer) ram rom belt) lines ⌝ }
     ensures counts { λ r. ⌜ r .counts ≡ judged true
-        (stepAgrees (expectedLent xrecord xram xrom xbelt) wanted (before (progress .processor) ram rom belt) lines) (stepMade (progress .counts)) ⌝ }
+        (stepAgrees (expectedLent xrecord xram xrom xbelt) wanted (before (progress .processor) (progress .timer) ram rom belt) lines)
+        (stepMade (progress .counts)) ⌝ }
     ensures tallies { λ r. ⌜ talliesLeft opcodes exceptions
-        ≡ stepTallied (talliesLent opcodes exceptions) (before (progress .processor) ram rom belt) lines ⌝ }
+        ≡ stepTallied (talliesLent opcodes exceptions) (before (progress .processor) (progress .timer) ram rom belt) lines ⌝ }
 {
     let p = progress.processor;
+    let timer = progress.timer;
     let counts = progress.counts;
-    let opcode = opcode_at(p, &ram[..], rom, &belt[..]);
-    let stepped = run_loop::step(p, ram, rom, belt, lines);
+    let opcode = opcode_at(p, timer, &ram[..], rom, &belt[..]);
+    let stepped = run_loop::step(p, timer, ram, rom, belt, lines);
     let eid = stepped.eid;
     let next = stepped.processor;
+    let ticked = stepped.timer;
     count_step(opcodes, exceptions, opcode, eid);
     let agrees = expected::agree(
         next,
+        ticked,
         &ram[..],
         rom,
         &belt[..],
@@ -107,6 +115,7 @@ pub fn step(
     );
     Progress {
         processor: next,
+        timer: ticked,
         counts: counts.make_step().judge(true, agrees),
     }
 }

@@ -8,18 +8,21 @@ use lib.ListN.{length, getD}
 use borrow.Author.Tests.{eq-eqb, ne-eqb, eqb-true, leb-true}
 use Rattle.words.specs.Lists.{Every}
 use Rattle.memory.specs.Map.{Memory}
+use Rattle.timer.specs.declared.Timer.{Timer}
+use Rattle.timer.specs.Timer.{timerFit}
 use Rattle.processor.specs.declared.Processor.{Processor}
 use Rattle.processor.proofs.FitLaws.{Fit, fit-means}
-use Rattle.record_layout.specs.Record.{recordOf, processorOf}
-use Rattle.record.specs.Calls.{recordTests, readRefusal, processorRead}
-use Rattle.record.proofs.Answers.{read-accepted}
-use Rattle.record.proofs.ReadWritten.{read-written}
+use Rattle.processor.specs.State.{fit}
+use Rattle.record_layout.specs.Record.{recordOf, processorOf, timerOf}
+use Rattle.record.specs.Calls.{processorUnless, timerUnless, machineTests, machineRefusal}
+use Rattle.record.proofs.Fitness.{both-fit}
+use Rattle.record.proofs.ReadWritten.{machine-written}
 use Rattle.machine.specs.Machine.{Machine}
 use Rattle.refusals.specs.Refusal.{Test, firstFailed, memoryTests, stepsTest}
 use Rattle.refusals.proofs.FirstFailed.{joined, all-pass}
 use Rattle.run_loop.specs.Run.{Request, request, answer, Outcome, runFrom}
 use Rattle.run_loop.proofs.Loop.{no-step}
-use Rattle.run_loop.proofs.Kept.{run-fit}
+use Rattle.run_loop.proofs.Kept.{run-fit, run-timer-fits}
 use Rattle.run_calls.specs.Runs.{callTests, callRefusal, Called, called, machineIn, recorded, callOf}
 use Rattle.run_calls.specs.Code.{firstOf}
 
@@ -34,29 +37,37 @@ module _ (s : List ℕ) (m : Memory) (wanted : ℕ) (accepted : callRefusal s m 
   unfolding callRefusal
   passed = all-pass (callTests s m wanted) refl accepted
 
-  size : length s ≡ 414
+  size : length s ≡ 424
   size = eqb-true _ _ (passed .1 .1 .1 .0)
 
   within : wanted ≤ 1000000
   within = leb-true wanted 1000000 (passed .1 .1 .1 .1 .1 .1 .0)
 
-  as-read : (0 ≡ readRefusal s) × (processorOf s ≡ processorRead s)
-  as-read = read-accepted s size (passed .1 .1 .1 .1 .0) (passed .1 .1 .1 .1 .1 .0)
+  fits : (fit (processorOf s) ≡ true) × (timerFit (timerOf s) ≡ true)
+  fits = both-fit (processorOf s) (timerOf s) (passed .1 .1 .1 .1 .1 .0)
 
   read-fits : Fit (processorOf s)
-  read-fits = fit-means (processorOf s) (passed .1 .1 .1 .1 .1 .0)
+  read-fits = fit-means (processorOf s) (fits .0)
+
+  timer-fits : timerOf s .control ≤ 3
+  unfolding timerFit
+  timer-fits = leb-true (timerOf s .control) 3 (fits .1)
+
+  machine-accepted : machineRefusal s ≡ 0
+  unfolding machineRefusal
+  machine-accepted = rw (passed .1 .1 .1 .0, passed .1 .1 .1 .1 .0, passed .1 .1 .1 .1 .1 .0)
 
 -- ---- the tests of the code: of the lengths, of the record and of the steps, and the first that refuses
 
 module _ (s : List ℕ) (m : Memory) (q : Request) {l r t number : ℕ}
-    (lengths : l ≡ firstFailed (memoryTests m)) (read : r ≡ readRefusal s) (steps : t ≡ firstFailed (stepsTest (q .wanted) ∷ []))
+    (lengths : l ≡ firstFailed (memoryTests m)) (read : r ≡ machineRefusal s) (steps : t ≡ firstFailed (stepsTest (q .wanted) ∷ []))
     (first : number ≡ firstOf l (firstOf r t)) where
   is-number : number ≡ callRefusal s m (q .wanted)
-  unfolding firstOf callRefusal readRefusal
+  unfolding firstOf callRefusal machineRefusal
   is-number =
       let last : List Test = stepsTest (q .wanted) ∷ [] in
       first ∙ rw (lengths, read, steps)
-      (sym (joined (memoryTests m) (recordTests s ++ last) refl ∙ ap (firstOf (firstFailed (memoryTests m))) (joined (recordTests s) last refl)))
+      (sym (joined (memoryTests m) (machineTests s ++ last) refl ∙ ap (firstOf (firstFailed (memoryTests m))) (joined (machineTests s) last refl)))
 
   pub refused-call : (number ≡ 0 → ⊥) → called s m number 0 32 ≡ callOf q s m
   unfolding callOf
@@ -66,31 +77,38 @@ module _ (s : List ℕ) (m : Memory) (q : Request) {l r t number : ℕ}
     none : callRefusal s m (q .wanted) ≡ 0
     none = sym is-number ∙ accepted
 
-    pub record-size : length s ≡ 414
+    pub record-size : length s ≡ 424
     record-size = size s m (q .wanted) none
 
     pub steps-within : q .wanted ≤ 1000000
     steps-within = within s m (q .wanted) none
 
-    module _ {p : Processor} (f : p ≡ processorRead s) {o : Outcome} (g : o ≡ runFrom q (q .wanted) 0 (record { processor = p; memory = m })) where
-      machine-read : p ≡ processorOf s
-      machine-read = f ∙ sym (as-read s m (q .wanted) none .1)
+    module _ {p : Processor} (f : p ≡ processorUnless (machineRefusal s) s) {u : Timer} (g : u ≡ timerUnless (machineRefusal s) s)
+        {o : Outcome} (h : o ≡ runFrom q (q .wanted) 0 (record { processor = p; timer = u; memory = m })) where
+      -- the machine that was read is the record's
+      same : o ≡ runFrom q (q .wanted) 0 (machineIn s m)
+      same =
+          let number = machine-accepted s m (q .wanted) none in
+          let processor-read : p ≡ processorOf s = f ∙ ap (λ (n : ℕ). processorUnless n s) number in
+          let timer-read : u ≡ timerOf s = g ∙ ap (λ (n : ℕ). timerUnless n s) number in
+          h ∙ (λ i. runFrom q (q .wanted) 0 (record { processor = processor-read i; timer = timer-read i; memory = m }))
 
       -- the outcome, with the buffer as it was written
-      pub call-written : {b : List ℕ} → b ≡ recordOf (o .machine .processor)
+      pub call-written : {b : List ℕ} → b ≡ recordOf (o .machine .processor) (o .machine .timer)
           → _≡_ {A = Called} (record { buffer = b; memory = o .machine .memory; answer = o .answer }) (callOf q s m)
       unfolding callOf
-      call-written h =
-          let same : o ≡ runFrom q (q .wanted) 0 (machineIn s m) =
-          g ∙ ap (λ (p : Processor). runFrom q (q .wanted) 0 (record { processor = p; memory = m })) machine-read in
-          (λ i. record { buffer = h i; memory = o .machine .memory; answer = o .answer }) ∙ rw none (ap recorded same)
+      call-written e = (λ i. record { buffer = e i; memory = o .machine .memory; answer = o .answer }) ∙ rw none (ap recorded same)
 
       -- the machine after it can be written
       pub run-index : o .machine .processor .replacement < 256
       run-index =
-          let start : Fit p = subst Fit (sym machine-read) (read-fits s m (q .wanted) none) in
-          let end = run-fit q (q .wanted) 0 (record { processor = p; memory = m }) start .upto in
-          omega (arith, end, ap (λ (q : Outcome). q .machine .processor .replacement) g)
+          let end = run-fit q (q .wanted) 0 (machineIn s m) (read-fits s m (q .wanted) none) .upto in
+          omega (arith, end, ap (λ (q : Outcome). q .machine .processor .replacement) same)
+
+      pub run-control : o .machine .timer .control < 256
+      run-control =
+          let end = run-timer-fits q (q .wanted) 0 (machineIn s m) (timer-fits s m (q .wanted) none) in
+          omega (arith, end, ap (λ (q : Outcome). q .machine .timer .control) same)
 
 -- ---- zero steps change nothing
 
@@ -101,6 +119,5 @@ module _ (kind : Bool) (s : List ℕ) (m : Memory) (lines : ℕ) where
   pub no-steps : ((j : ℕ) → getD s j 0 < 256) → callRefusal s m 0 ≡ 0 → callOf q s m ≡ called s m 0 0 32
   unfolding callOf
   no-steps bytes e =
-      let same : recordOf (processorOf s) ≡ s =
-      ap recordOf (as-read s m 0 e .1) ∙ read-written s bytes (sym (as-read s m 0 e .0)) in
+      let same : recordOf (processorOf s) (timerOf s) ≡ s = machine-written s bytes (machine-accepted s m 0 e) in
       rw e (ap recorded (no-step q 0 (machineIn s m)) ∙ (λ i. record { buffer = same i; memory = m; answer = answer 0 0 32 }))

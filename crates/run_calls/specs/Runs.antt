@@ -5,15 +5,15 @@ use Prim.Native.Nat.{ℕ}
 use lib.Dec.{eqb}
 use Rattle.memory.specs.Map.{Memory}
 use Rattle.words.specs.Identifiers.{noException}
-use Rattle.record_layout.specs.Record.{recordOf, processorOf}
+use Rattle.record_layout.specs.Record.{recordOf, processorOf, timerOf}
 use Rattle.machine.specs.Machine.{Machine}
 use Rattle.step.specs.Step.{Stepped}
 use Rattle.refusals.specs.Refusal.{Test, firstFailed, memoryTests, stepsTest}
-use Rattle.record.specs.Calls.{recordTests}
+use Rattle.record.specs.Calls.{machineTests}
 use Rattle.run_loop.specs.Run.{Request, Answer, answer, Outcome, stepsFrom, runFrom}
 
 abbrev pub callTests : List ℕ → Memory → ℕ → List Test
-callTests s m wanted = memoryTests m ++ (recordTests s ++ (stepsTest wanted ∷ []))
+callTests s m wanted = memoryTests m ++ (machineTests s ++ (stepsTest wanted ∷ []))
 
 unfoldable pub callRefusal : List ℕ → Memory → ℕ → ℕ
 callRefusal s m wanted = firstFailed (callTests s m wanted)
@@ -29,11 +29,12 @@ called buffer m refusal steps eid = record { buffer = buffer; memory = m; answer
 
 -- the machine that a record holds, with the lent memory
 abbrev pub machineIn : List ℕ → Memory → Machine
-machineIn s m = record { processor = processorOf s; memory = m }
+machineIn s m = record { processor = processorOf s; timer = timerOf s; memory = m }
 
 -- an outcome with the machine as its record
 abbrev pub recorded : Outcome → Called
-recorded o = record { buffer = recordOf (o .machine .processor); memory = o .machine .memory; answer = o .answer }
+recorded o =
+    record { buffer = recordOf (o .machine .processor) (o .machine .timer); memory = o .machine .memory; answer = o .answer }
 
 -- the steps of a call: a refused one makes none
 unfoldable pub callSteps : Request → List ℕ → Memory → List Stepped

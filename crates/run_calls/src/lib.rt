@@ -52,7 +52,7 @@ pub fn call(
         ≡ callOf (request kind wanted lines) (now (machine .entry)) (lent ram rom belt) ⌝ }
 {
     let lengths = refusals::of_lengths(ram.len(), rom.len(), belt.len());
-    let reading = record::read(&machine[..]);
+    let reading = record::read_machine(&machine[..]);
     let steps = refusals::of_steps(wanted);
     let number = first_of(lengths, reading.refusal, steps);
     if number != refusals::ACCEPTED {
@@ -60,6 +60,7 @@ pub fn call(
     }
     let ran = run_loop::advance(
         reading.processor,
+        reading.timer,
         ram,
         rom,
         belt,
@@ -67,7 +68,7 @@ pub fn call(
         lines as u32,
         kind,
     );
-    record_layout::put(ran.processor, machine);
+    record_layout::put(ran.processor, ran.timer, machine);
     Answer {
         refusal: ran.refusal,
         steps: ran.steps,

@@ -1,11 +1,11 @@
 -- What every step keeps, every run keeps.
-use Prim.Native.Nat.{ℕ, zero, suc}
+use Prim.Native.Nat.{ℕ, zero, suc, _≤_}
 use lib.Dec.{eqb}
 use Rattle.words.proofs.Cases.{chosen}
 use Rattle.processor.proofs.FitLaws.{Fit}
 use Rattle.machine.specs.Machine.{Machine, Representable}
 use Rattle.step.specs.Step.{stepOf}
-use Rattle.step.proofs.StepFit.{step-fit}
+use Rattle.step.proofs.StepFit.{step-fit, step-timer-fits}
 use Rattle.step.proofs.StepRepresentable.{step-representable}
 use Rattle.refusals.specs.Refusal.{runRefusal}
 use Rattle.run_loop.specs.Run.{Request, Outcome, ends, runFrom, runOf, stepsFrom, countedAll}
@@ -29,6 +29,10 @@ module _ (P : Machine → Type 0) (step : (m : Machine) (lines : ℕ) → P m �
 -- a fit processor stays fit
 pub run-fit : (q : Request) (n made : ℕ) (m : Machine) → Fit (m .processor) → Fit (runFrom q n made m .machine .processor)
 run-fit q = from-keeps (λ m. Fit (m .processor)) step-fit q
+
+-- and so does a fit timer
+pub run-timer-fits : (q : Request) (n made : ℕ) (m : Machine) → m .timer .control ≤ 3 → runFrom q n made m .machine .timer .control ≤ 3
+run-timer-fits q = from-keeps (λ m. m .timer .control ≤ 3) step-timer-fits q
 
 -- a machine of the code's types stays one
 pub run-representable : (q : Request) (n made : ℕ) (m : Machine) → Representable m → Representable (runFrom q n made m .machine)

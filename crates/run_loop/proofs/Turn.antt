@@ -15,6 +15,7 @@ use Rattle.processor.specs.State.{withRegisters, withPc}
 use Rattle.processor.specs.Exception.{entered}
 use Rattle.processor.specs.Register.{put, written, jumped}
 use Rattle.tlb.specs.Lookup.{pageOf, lookup}
+use Rattle.timer.specs.Timer.{linesWith}
 use Rattle.machine.specs.Machine.{Machine}
 use Rattle.look.specs.Look.{lookFrom}
 use Rattle.step.specs.Step.{surroundingsOf, look, done, eidOf, stepOf}
@@ -74,11 +75,12 @@ pub record Going (q : Request) (began m : Machine) (last : Found) (steps eid : �
   pub rest : runFrom q (q .wanted) 0 began ≡ runFrom q (q .wanted - steps) steps m
 
 module _ {q : Request} {began m : Machine} {last : Found} {steps eid : ℕ} (g : Going q began m last steps eid) (more : steps < q .wanted)
-    {a b : Action} (e : b ≡ lookFrom (surroundingsOf m) (m .processor .registers) (m .processor .pc) (q .lines)) (told : b ≡ a)
+    {seen : ℕ} (s : seen ≡ linesWith (m .timer) (q .lines))
+    {a b : Action} (e : b ≡ lookFrom (surroundingsOf m) (m .processor .registers) (m .processor .pc) seen) (told : b ≡ a)
     {n : Machine} (after : n ≡ done m a) where
   looked : look m (q .lines) ≡ a
   unfolding look
-  looked = sym e ∙ told
+  looked = ap (lookFrom (surroundingsOf m) (m .processor .registers) (m .processor .pc)) (sym s) ∙ sym e ∙ told
 
   stepped-to : n ≡ stepOf m (q .lines) .machine
   stepped-to = after ∙ sym (step-done m (q .lines) a looked)

@@ -1,14 +1,16 @@
 // The steps of a run, once it is accepted (document 01, "Runs and views").
 use instructions::Coded;
 use processor::Processor;
+use timer::Timer;
 ghost use mathlib.Core.Path.{_≡_};
 ghost use Rattle.machine.specs.Machine.{before, after};
 ghost use Rattle.step.specs.Step.{stepped, stepOf};
 ghost use Rattle.run_loop.specs.Run.{request, outcome, runFrom};
 
-// The processor after a run; the refusal or 0, the steps made, and the exception that ended it, or 32.
+// The processor and the timer after a run; the refusal or 0, the steps made, and the exception that ended it, or 32.
 pub struct Ran {
     pub processor: Processor,
+    pub timer: Timer,
     pub refusal: u32,
     pub steps: u32,
     pub eid: u32,
@@ -17,6 +19,7 @@ pub struct Ran {
 // The steps of an accepted run. `kind` says whether an accepted exception ends it.
 pub fn advance(
     p: Processor,
+    timer: Timer,
     ram: &mut [u8],
     rom: &[u8],
     belt: &mut [u8],
@@ -24,14 +27,18 @@ pub fn advance(
     lines: u32,
     kind: bool,
 ) -> Ran
-    ensures { λ r. ⌜ outcome (after (r .processor) ram rom belt) (r .refusal) (r .steps) (r .eid)
-        ≡ runFrom (request kind wanted lines) wanted 0 (before p ram rom belt) ⌝ }
+    ensures { λ r. ⌜ outcome (after (r .processor) (r .timer) ram rom belt) (r .refusal) (r .steps) (r .eid)
+        ≡ runFrom (request kind wanted lines) wanted 0 (before p timer ram rom belt) ⌝ }
 {
     let mut state = p;
+    let mut ticking = timer;
     let mut last = tlb::first(&state.tlbhigh);
     let mut steps = 0;
     let mut eid = Processor::NO_EXCEPTION;
     while steps < wanted {
+        // The step sees the timer as it was. Ticked it is already; a store to the timer ticks what it stored.
+        let former = ticking;
+        ticking = former.tick();
         last = tlb::follow(&state.tlbhigh, last, state.pc);
         let action = look::look_at(
             &state.registers,
@@ -40,10 +47,11 @@ pub fn advance(
             &state.tlbhigh,
             &state.tlblow,
             last.index,
+            former,
             &ram[..],
             rom,
             &belt[..],
-            lines,
+            former.lines(lines),
         );
         steps += 1;
         match action {
@@ -61,7 +69,9 @@ pub fn advance(
             }
             Coded::Store(width, physical, v) => {
                 // The look has found that something answers.
-                load_store::store(ram, rom, belt, width, physical, v);
+                let settled = load_store::store(former, ram, rom, belt, width, physical, v);
+                let stored = settled.timer;
+                ticking = stored.tick();
                 state = state.jump(sums::add(state.pc, 4));
             }
             Coded::Rfx(_, _, _)
@@ -85,26 +95,37 @@ pub fn advance(
     }
     Ran {
         processor: state,
+        timer: ticking,
         refusal: 0,
         steps: steps,
         eid: eid,
     }
 }
 
-// The processor after a step, and the exception that it accepted, or 32.
+// The processor and the timer after a step, and the exception that it accepted, or 32.
 pub struct Stepped {
     pub processor: Processor,
+    pub timer: Timer,
     pub eid: u32,
 }
 
 // One step is a run of one step, to exception.
-pub fn step(p: Processor, ram: &mut [u8], rom: &[u8], belt: &mut [u8], lines: u32) -> Stepped
-    ensures { λ r. ⌜ stepped (after (r .processor) ram rom belt) (r .eid) ≡ stepOf (before p ram rom belt) lines ⌝ }
+pub fn step(
+    p: Processor,
+    timer: Timer,
+    ram: &mut [u8],
+    rom: &[u8],
+    belt: &mut [u8],
+    lines: u32,
+) -> Stepped
+    ensures { λ r. ⌜ stepped (after (r .processor) (r .timer) ram rom belt) (r .eid) ≡ stepOf (before p timer ram rom belt) lines ⌝ }
 {
-    let ran = advance(p, ram, rom, belt, 1, lines, true);
+    let ran = advance(p, timer, ram, rom, belt, 1, lines, true);
     let next = ran.processor;
+    let ticked = ran.timer;
     Stepped {
         processor: next,
+        timer: ticked,
         eid: ran.eid,
     }
 }

@@ -7,3 +7,4 @@ pub mod RepresentableKept
 pub mod StepRepresentable
 pub mod Named
 pub mod StarredCases
+pub mod TimerCases

@@ -1,6 +1,7 @@
 -- The step by its look.
 use mathlib.Core.Path.{_≡_, ap, sym, _∙_}
 use Prim.Native.Nat.{ℕ}
+use Rattle.timer.specs.declared.Timer.{Timer}
 use Rattle.memory.specs.Map.{Memory}
 use Rattle.processor.specs.declared.Processor.{Processor}
 use Rattle.instructions.specs.Action.{Action}
@@ -20,7 +21,7 @@ module _ (m : Machine) (lines : ℕ) (a : Action) (e : look m lines ≡ a) where
   pub step-is : {n : Machine} {eid : ℕ} → n ≡ done m a → eid ≡ eidOf a → stepped n eid ≡ stepOf m lines
   step-is f g = λ i. stepped ((f ∙ sym step-done) i) ((g ∙ sym step-eid) i)
 
--- the two halves of a machine
-pub joined : {p q : Processor} {m n : Memory} → p ≡ q → m ≡ n
-    → _≡_ {A = Machine} (record { processor = p; memory = m }) (record { processor = q; memory = n })
-joined e f = λ i. record { processor = e i; memory = f i }
+-- the three parts of a machine
+pub joined : {p q : Processor} {t u : Timer} {m n : Memory} → p ≡ q → t ≡ u → m ≡ n
+    → _≡_ {A = Machine} (record { processor = p; timer = t; memory = m }) (record { processor = q; timer = u; memory = n })
+joined e f g = λ i. record { processor = e i; timer = f i; memory = g i }

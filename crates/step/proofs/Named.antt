@@ -20,6 +20,7 @@ use Rattle.access.specs.declared.Read.{Read}
 use Rattle.access.specs.declared.Read.the-variants.{Value, Fault}
 use Rattle.decode.proofs.Named.{Named, NamedRead, read-named}
 use Rattle.decode.proofs.Outcomes.{executed-named}
+use Rattle.timer.specs.Timer.{linesWith}
 use Rattle.machine.specs.Machine.{Machine}
 use Rattle.look.specs.Look.{operandsOf, decoded, lookFrom}
 use Rattle.step.specs.Step.{surroundingsOf, look, stepOf}
@@ -55,7 +56,7 @@ decoded-named s registers pc (Fault eid) h = h
 
 look-named : (m : Machine) (lines : ℕ) → Named (look m lines)
 unfolding look lookFrom readFrom
-look-named m lines = go (ltb (channel (m .processor .psw) lines) 32) refl
+look-named m lines = go (ltb (channel (m .processor .psw) (linesWith (m .timer) lines)) 32) refl
   where
     rest : Action
     rest = decoded (surroundingsOf m) (m .processor .registers) (m .processor .pc) (readFrom 4 (surroundingsOf m) (m .processor .pc))
@@ -64,11 +65,11 @@ look-named m lines = go (ltb (channel (m .processor .psw) lines) 32) refl
     rest-named =
         decoded-named (surroundingsOf m) (m .processor .registers) (m .processor .pc)
         (readFrom 4 (surroundingsOf m) (m .processor .pc))
-        (read-named 4 (m .memory) (translated (m .processor .psw) (m .processor .tlbhigh) (m .processor .tlblow) 4 false (m .processor .pc)))
+        (read-named 4 (m .timer) (m .memory) (translated (m .processor .psw) (m .processor .tlbhigh) (m .processor .tlblow) 4 false (m .processor .pc)))
 
-    go : (t : Bool) → ltb (channel (m .processor .psw) lines) 32 ≡ t
-        → Named (cond t (Exception (channel (m .processor .psw) lines) 0) rest)
-    go true e = omega (arith, channel-range (m .processor .psw) lines (ltb-true _ _ e))
+    go : (t : Bool) → ltb (channel (m .processor .psw) (linesWith (m .timer) lines)) 32 ≡ t
+        → Named (cond t (Exception (channel (m .processor .psw) (linesWith (m .timer) lines)) 0) rest)
+    go true e = omega (arith, channel-range (m .processor .psw) (linesWith (m .timer) lines) (ltb-true _ _ e))
     go false e = rest-named
 
 -- ---- what is accepted

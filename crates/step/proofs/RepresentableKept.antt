@@ -21,6 +21,9 @@ use Rattle.kept_bits.proofs.KeptLaws.{kept-psw-lt, kept-index-lt, kept-high-lt,
 use Rattle.processor.proofs.EntryLaws.{service-lt}
 use Rattle.tlb.proofs.Sizes.{replacement-lt, found-lt}
 use Rattle.words.proofs.Every.{_&_, every-at}
+use Rattle.timer.specs.Timer.{timerAtReset, ticked, TimerWords}
+use Rattle.timer.specs.declared.Timer.{Timer}
+use Rattle.timer.proofs.Registers.{ticked-words}
 use Rattle.memory.specs.Map.{Memory}
 use Rattle.machine.specs.Machine.{Machine, machine, Words32, Bytes, Representable}
 use Rattle.machine.proofs.Representing.{Word, representable}
@@ -44,46 +47,51 @@ same-words : (v : ℕ) → v < 2 ^ 32 → Words32 (replicate 32 v)
 same-words v h = (refl, λ i k. rw (getD-replicate 32 i v 0 k) h)
 
 pub reset-representable : (ram rom belt : List ℕ) → Bytes ram → Bytes rom → Bytes belt
-    → Representable (machine atReset ram rom belt)
-unfolding atReset
+    → Representable (machine atReset timerAtReset ram rom belt)
+unfolding atReset timerAtReset
 reset-representable ram rom belt =
     representable (same-words 0 (omega arith)) (omega arith) (omega arith) (omega arith) (omega arith) (omega arith) (omega arith)
     (same-words 0xC0000000 (omega arith)) (same-words 0 (omega arith)) (omega arith)
+    (record { divisor = omega arith; counter = omega arith; control = omega arith })
 
 -- ---- one part changed
 
 -- the machine with another processor
 abbrev pub having : Machine → Processor → Machine
-having m p = record { processor = p; memory = m .memory }
+having m p = record { processor = p; timer = m .timer; memory = m .memory }
 
 registers-kept : {m : Machine} → Representable m → {l : List ℕ} → Words32 l → Representable (having m (withRegisters (m .processor) l))
 registers-kept r w =
     representable w (r .pc) (r .psw) (r .index) (r .entryhigh) (r .entrylow) (r .badaddress)
-    (r .tlbhigh) (r .tlblow) (r .replacement) (r .ram) (r .rom) (r .belt)
+    (r .tlbhigh) (r .tlblow) (r .replacement) (r .timer) (r .ram) (r .rom) (r .belt)
 
 pc-kept : {m : Machine} → Representable m → {pc : ℕ} → Word pc → Representable (having m (withPc (m .processor) pc))
 pc-kept r w =
     representable (r .registers) w (r .psw) (r .index) (r .entryhigh) (r .entrylow) (r .badaddress)
-    (r .tlbhigh) (r .tlblow) (r .replacement) (r .ram) (r .rom) (r .belt)
+    (r .tlbhigh) (r .tlblow) (r .replacement) (r .timer) (r .ram) (r .rom) (r .belt)
 
 specials-kept : {m : Machine} → Representable m → {psw index high low bad : ℕ} → Word psw → Word index → Word high → Word low → Word bad
     → Representable (having m (withSpecials (m .processor) psw index high low bad))
 specials-kept r psw index high low bad =
     representable (r .registers) (r .pc) psw index high low bad
-    (r .tlbhigh) (r .tlblow) (r .replacement) (r .ram) (r .rom) (r .belt)
+    (r .tlbhigh) (r .tlblow) (r .replacement) (r .timer) (r .ram) (r .rom) (r .belt)
 
 tlb-kept : {m : Machine} → Representable m → {highs lows : List ℕ} {replacement : ℕ} → Words32 highs → Words32 lows → Word replacement
     → Representable (having m (withTlb (m .processor) highs lows replacement))
 tlb-kept r highs lows replacement =
     representable (r .registers) (r .pc) (r .psw) (r .index) (r .entryhigh) (r .entrylow) (r .badaddress)
-    highs lows replacement (r .ram) (r .rom) (r .belt)
+    highs lows replacement (r .timer) (r .ram) (r .rom) (r .belt)
 
--- another memory
-pub memory-kept : {m : Machine} → Representable m → {n : Memory} → Bytes (n .ram) → Bytes (n .rom) → Bytes (n .belt)
-    → Representable (record { processor = m .processor; memory = n })
-memory-kept r ram rom belt =
+-- another timer and another memory
+pub around-kept : {m : Machine} → Representable m → {t : Timer} → TimerWords t → {n : Memory} → Bytes (n .ram) → Bytes (n .rom) → Bytes (n .belt)
+    → Representable (record { processor = m .processor; timer = t; memory = n })
+around-kept r t ram rom belt =
     representable (r .registers) (r .pc) (r .psw) (r .index) (r .entryhigh) (r .entrylow) (r .badaddress)
-    (r .tlbhigh) (r .tlblow) (r .replacement) ram rom belt
+    (r .tlbhigh) (r .tlblow) (r .replacement) t ram rom belt
+
+-- a tick
+pub tick-kept : {m : Machine} → Representable m → Representable (record { processor = m .processor; timer = ticked (m .timer); memory = m .memory })
+tick-kept {m} r = around-kept r (ticked-words (m .timer) (r .timer)) (r .ram) (r .rom) (r .belt)
 
 -- ---- the operations
 

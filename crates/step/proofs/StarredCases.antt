@@ -9,8 +9,8 @@ use Rattle.quotients.specs.Quotients.{signedQuotient}
 use Rattle.shifts.specs.Shifts.{shiftArithmetic}
 use Rattle.comparison.specs.Comparison.{signedHolds, unsignedHolds}
 use Rattle.endian.specs.BigEndian.{readAt, writeAt}
-use Rattle.memory.specs.Map.{within, locate, placeOf}
-use Rattle.memory.specs.Access.{loadOf, storeAnswer, storeWidth, memoryAfter}
+use Rattle.memory.specs.Map.{within, registerAt, locate, placeOf}
+use Rattle.memory.specs.Access.{loadOf, storeAnswer, storeWidth, memoryAfter, timerAfter}
 use Rattle.processor.specs.declared.Processor.{Processor}
 use Rattle.kept_bits.specs.Kept.{keptPsw, keptHigh}
 use Rattle.processor.specs.State.{atReset, withPc, withSpecials, withTlb}
@@ -30,6 +30,7 @@ use Rattle.transfer.specs.Transfer.{load, transfers}
 use Rattle.access.specs.Writes.{storeTo}
 use Rattle.system.specs.System.{privileged, traps, systems}
 use Rattle.decode.specs.Table.{meanings, executed}
+use Rattle.timer.specs.Timer.{timerAtReset, raised, linesWith, ticked, registerRead, registerWritten}
 use Rattle.machine.specs.Machine.{Machine, machine}
 use Rattle.look.specs.Look.{lookFrom}
 use Rattle.actions.specs.Actions.{systemDone}
@@ -43,12 +44,12 @@ bytes word = word / 0x1000000 ∷ word / 0x10000 % 256 ∷ word / 0x100 % 256 �
 
 -- a processor with RAM and belt of zeros, and a ROM that begins with a word
 abbrev holding : ℕ → Processor → Machine
-holding word p = machine p (replicate 4096 0) (bytes word ++ replicate 4092 0) (replicate 1024 0)
+holding word p = machine p timerAtReset (replicate 4096 0) (bytes word ++ replicate 4092 0) (replicate 1024 0)
 
 -- PSW 0C804000, with RFX in RAM where general service begins
 abbrev interrupted : Machine
 interrupted =
-    machine (specialWritten atReset 0 0x0C804000) (bytes 0 ++ bytes 0xBC000000 ++ replicate 4088 0) (replicate 4096 0) (replicate 1024 0)
+    machine (specialWritten atReset 0 0x0C804000) timerAtReset (bytes 0 ++ bytes 0xBC000000 ++ replicate 4088 0) (replicate 4096 0) (replicate 1024 0)
 
 -- from reset, with two registers written
 abbrev withTwo : ℕ → ℕ → ℕ → ℕ → Processor
@@ -68,7 +69,7 @@ withEntry address high low = withTlb (withTwo 0 0 1 address) (set (atReset .tlbh
 -- a step of a word in RAM with a PSW of User Mode, through TLB entry 7: page 00000 to frame 00000, valid
 abbrev userStep : ℕ → ℕ → ℕ → Stepped
 userStep psw word address =
-    stepOf (machine (withSpecials (withPc (withEntry address 0 1) 0) psw 0 0 0 0)
+    stepOf (machine (withSpecials (withPc (withEntry address 0 1) 0) psw 0 0 0 0) timerAtReset
     (bytes word ++ replicate 4092 0) (replicate 4096 0) (replicate 1024 0)) 0
 
 -- its exception, where V is 0
@@ -132,10 +133,11 @@ pub record Starred : Type 0 where
 
 pub starred : Starred
 unfolding
+    timerAtReset raised linesWith ticked registerRead registerWritten
     stepOf look lookFrom systemDone storeWidth
     channel lowest vector userCurrent userPrevious userOld interruptCurrent interruptPrevious interruptOld identifier enabled pswOf pushed popped userMode
     readFrom translated forbidden mapped lookup findFrom through valid writable
-    loadOf storeAnswer memoryAfter placeOf locate within readAt writeAt
+    loadOf storeAnswer memoryAfter timerAfter placeOf locate registerAt within readAt writeAt
     executed meanings computations controls traps transfers systems unlessZero target branch load storeTo privileged
     sum truncate signExtend zeroExtend bit signed wordOf signedQuotient shiftArithmetic signedHolds unsignedHolds
     atReset keptPsw keptHigh put written jumped special specialWritten entered returned serviceBase userMiss serviceAddress

@@ -1,6 +1,11 @@
--- A fit state stays fit over every step.
-use Prim.Native.Nat.{ℕ}
+-- A fit state and a fit timer stay fit over every step.
+use Prim.Native.Nat.{ℕ, _≤_}
 use Rattle.sums.specs.Sums.{sum}
+use Rattle.timer.specs.declared.Timer.{Timer}
+use Rattle.timer.proofs.Registers.{ticked-fits}
+use Rattle.memory.specs.Map.{Memory}
+use Rattle.memory.specs.Access.{storeWidth}
+use Rattle.memory.proofs.Bytewise.{store-fits}
 use Rattle.processor.specs.declared.Processor.{Processor}
 use Rattle.processor.specs.Register.{special}
 use Rattle.processor.proofs.FitLaws.{Fit}
@@ -8,7 +13,7 @@ use Rattle.processor.proofs.FitKept.{entered-fit, returned-fit, written-fit, ju
 use Rattle.instructions.specs.Action.{Action, Write, Store, System, Exception, SystemInstruction, Rfx, Mvfs, Mvts, Tbs, Tbwr, Tbri, Tbwi}
 use Rattle.machine.specs.Machine.{Machine}
 use Rattle.actions.specs.Actions.{processorAfter, onward, systemDone}
-use Rattle.step.specs.Step.{look, stepOf}
+use Rattle.step.specs.Step.{look, timerDone, stepOf}
 
 module _ (p : Processor) (f : Fit p) where
   system-fit : (i : SystemInstruction) → Fit (systemDone i p)
@@ -30,3 +35,13 @@ module _ (p : Processor) (f : Fit p) where
 pub step-fit : (m : Machine) (lines : ℕ) → Fit (m .processor) → Fit (stepOf m lines .machine .processor)
 unfolding stepOf
 step-fit m lines f = after-fit (m .processor) f (look m lines)
+
+timer-done-fits : (t : Timer) (m : Memory) → t .control ≤ 3 → (a : Action) → timerDone t m a .control ≤ 3
+timer-done-fits t m h (Write n v next) = h
+timer-done-fits t m h (Store width physical v) = store-fits (storeWidth width) t h m physical v
+timer-done-fits t m h (System i) = h
+timer-done-fits t m h (Exception eid address) = h
+
+pub step-timer-fits : (m : Machine) (lines : ℕ) → m .timer .control ≤ 3 → stepOf m lines .machine .timer .control ≤ 3
+unfolding stepOf
+step-timer-fits m lines h = ticked-fits _ (timer-done-fits (m .timer) (m .memory) h (look m lines))

@@ -9,7 +9,9 @@ use Rattle.sums.specs.Sums.{sum}
 use Rattle.words.proofs.Cases.{chosen, below-or-not}
 use Rattle.sums.proofs.Sizes.{sum-lt}
 use Rattle.memory.specs.Access.{storeWidth, memoryAfter}
-use Rattle.memory.proofs.Bytewise.{Bytewise, store-bytewise}
+use Rattle.timer.specs.Timer.{linesWith}
+use Rattle.timer.proofs.Registers.{ticked-words}
+use Rattle.memory.proofs.Bytewise.{Bytewise, store-bytewise, store-words}
 use Rattle.processor.specs.declared.Processor.{Processor}
 use Rattle.processor.specs.Register.{special}
 use Rattle.look.specs.Interrupt.{channel}
@@ -25,8 +27,8 @@ use Rattle.machine.specs.Machine.{Machine, Bytes, Representable}
 use Rattle.look.specs.Look.{operandsOf, decoded, lookFrom}
 use Rattle.actions.specs.Actions.{onward, systemDone}
 use Rattle.step.specs.Step.{surroundingsOf, look, done, stepOf}
-use Rattle.step.proofs.RepresentableKept.{having, memory-kept, special-lt, entered-representable, returned-representable, written-representable}
-use Rattle.step.proofs.RepresentableKept.{jumped-representable, special-representable, indexed-representable}
+use Rattle.step.proofs.RepresentableKept.{having, around-kept, tick-kept, special-lt, entered-representable, returned-representable}
+use Rattle.step.proofs.RepresentableKept.{written-representable, jumped-representable, special-representable, indexed-representable}
 use Rattle.step.proofs.RepresentableKept.{random-representable, read-representable, searched-representable}
 
 -- past the end of a list the byte is 0
@@ -58,13 +60,13 @@ module _ (m : Machine) (r : Representable m) where
 
   decoded-small : (a : Read) → Small (decoded (surroundingsOf m) (p .registers) (p .pc) a)
   decoded-small (Value word) =
-      executed-small (surroundingsOf m) (operandsOf (p .registers) (p .pc) word) (lent m r) (operands-words word)
+      executed-small (surroundingsOf m) (operandsOf (p .registers) (p .pc) word) (lent m r, r .timer) (operands-words word)
   decoded-small (Fault eid) = r .pc
 
   look-small : (lines : ℕ) → Small (look m lines)
   unfolding look lookFrom
   look-small lines =
-      chosen Small (ltb (channel (p .psw) lines) 32) (omega arith) (decoded-small (readFrom 4 (surroundingsOf m) (p .pc)))
+      chosen Small (ltb (channel (p .psw) (linesWith (m .timer) lines)) 32) (omega arith) (decoded-small (readFrom 4 (surroundingsOf m) (p .pc)))
 
   -- ---- the action
 
@@ -82,13 +84,14 @@ module _ (m : Machine) (r : Representable m) where
   system-representable Tbwi h = indexed-representable (having m (onward p)) moved
 
   done-representable : (a : Action) → Small a → Representable (done m a)
-  done-representable (Write n v next) h = written-representable m r n v next (h .0) (h .1)
+  done-representable (Write n v next) h = tick-kept (written-representable m r n v next (h .0) (h .1))
   done-representable (Store width physical v) h =
       let b : Bytewise (memoryAfter (storeWidth width) (m .memory) physical v) =
       store-bytewise (storeWidth width) (m .memory) (lent m r) physical v in
-      memory-kept moved (λ i k. b .ram i) (λ i k. b .rom i) (λ i k. b .belt i)
-  done-representable (System i) h = system-representable i h
-  done-representable (Exception eid address) h = entered-representable m r eid address h
+      around-kept moved (ticked-words _ (store-words (storeWidth width) (m .timer) (r .timer) (m .memory) physical v))
+      (λ i k. b .ram i) (λ i k. b .rom i) (λ i k. b .belt i)
+  done-representable (System i) h = tick-kept (system-representable i h)
+  done-representable (Exception eid address) h = tick-kept (entered-representable m r eid address h)
 
 -- ---- the step
 

@@ -1,7 +1,10 @@
--- One step (document 01, "One step"; manual, 3.2): a look, which changes nothing and names an action, and then the action.
+-- One step (document 01, "One step"; manual, 3.2): a look, which changes nothing and names an action, then the action, then one tick of the timer
+-- (document 02, job 1).
 use Prim.Native.Nat.{ℕ}
 use Rattle.memory.specs.Map.{Memory}
-use Rattle.memory.specs.Access.{storeWidth, memoryAfter}
+use Rattle.memory.specs.Access.{storeWidth, memoryAfter, timerAfter}
+use Rattle.timer.specs.Timer.{linesWith, ticked}
+use Rattle.timer.specs.declared.Timer.{Timer}
 use Rattle.words.specs.Identifiers.{noException}
 use Rattle.instructions.specs.Operands.{Surroundings, surroundings}
 use Rattle.instructions.specs.Action.{Action, Write, Store, System, Exception}
@@ -12,10 +15,11 @@ use Rattle.machine.specs.Machine.{Machine}
 -- ---- the look
 
 abbrev pub surroundingsOf : Machine → Surroundings
-surroundingsOf m = surroundings (m .processor .psw) (m .processor .tlbhigh) (m .processor .tlblow) (m .memory)
+surroundingsOf m = surroundings (m .processor .psw) (m .processor .tlbhigh) (m .processor .tlblow) (m .timer) (m .memory)
 
+-- with the host's interrupt lines, and the timer's as it was before the step
 unfoldable pub look : Machine → ℕ → Action
-look m lines = lookFrom (surroundingsOf m) (m .processor .registers) (m .processor .pc) lines
+look m lines = lookFrom (surroundingsOf m) (m .processor .registers) (m .processor .pc) (linesWith (m .timer) lines)
 
 -- ---- the action
 
@@ -25,6 +29,12 @@ memoryDone m (Store width physical v) = memoryAfter (storeWidth width) m physica
 memoryDone m (System i) = m
 memoryDone m (Exception eid address) = m
 
+abbrev pub timerDone : Timer → Memory → Action → Timer
+timerDone t m (Write n v next) = t
+timerDone t m (Store width physical v) = timerAfter (storeWidth width) t m physical v
+timerDone t m (System i) = t
+timerDone t m (Exception eid address) = t
+
 -- the exception that is accepted, or `noException`
 abbrev pub eidOf : Action → ℕ
 eidOf (Write n v next) = noException
@@ -32,8 +42,14 @@ eidOf (Store width physical v) = noException
 eidOf (System i) = noException
 eidOf (Exception eid address) = eid
 
+-- the tick comes last, after an exception too
 abbrev pub done : Machine → Action → Machine
-done m a = record { processor = processorAfter (m .processor) a; memory = memoryDone (m .memory) a }
+done m a =
+    record {
+      processor = processorAfter (m .processor) a;
+      timer = ticked (timerDone (m .timer) (m .memory) a);
+      memory = memoryDone (m .memory) a;
+    }
 
 -- ---- the step
 

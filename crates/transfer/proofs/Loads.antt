@@ -1,14 +1,37 @@
--- A load at the address that the code computed.
-use mathlib.Core.Path.{_≡_, ap, _∙_}
-use Prim.Native.Nat.{ℕ}
+-- A load, and a store of any width, at the address that the code computed; and the arm past the eight opcodes.
+use mathlib.Core.Path.{_≡_, refl, ap, ap₂, sym, _∙_}
+use Prim.Native.Nat.{ℕ, zero, suc, _+_, _-_, _≤_, _<_}
+use native.Mathlib.Omega.{arith}
+use lib.ListN.{getD, List·getD-eq-default}
 use Rattle.access.specs.Reads.{readFrom}
 use Rattle.access.specs.declared.Read.{Read}
-use Rattle.instructions.specs.Operands.{Surroundings}
+use Rattle.access.specs.Writes.{storeTo}
+use Rattle.instructions.specs.Operands.{Surroundings, Operands, Meaning, simple, illegal}
 use Rattle.instructions.specs.Action.{Action}
-use Rattle.transfer.specs.Transfer.{landed}
+use Rattle.transfer.specs.Transfer.{addressOf, landed, transfers}
+use Rattle.transfer.specs.Code.{storedBytes}
 
 pub lands : (extend : ℕ → ℕ) (number next width : ℕ) (s : Surroundings) (a b : ℕ) (r : Read) {action : Action}
     → action ≡ landed extend number a next r → r ≡ readFrom width s a → a ≡ b
     → action ≡ landed extend number b next (readFrom width s b)
 lands extend number next width s a b r h k e =
     h ∙ ap (landed extend number a next) k ∙ ap (λ (n : ℕ). landed extend number n next (readFrom width s n)) e
+
+module _ (s : Surroundings) (o : Operands) where
+  row : (j : ℕ) → j < 3 → storeTo (storedBytes (5 + j)) s (o .y) (addressOf o) ≡ getD transfers (5 + j) (simple illegal) s o
+  unfolding storedBytes transfers
+  row zero h = refl
+  row (suc zero) h = refl
+  row (suc (suc zero)) h = refl
+  row (suc (suc (suc j))) h = absurd (omega arith)
+
+  pub stores : (kind : ℕ) {w a : ℕ} {action : Action} → action ≡ storeTo w s (o .y) a → w ≡ storedBytes kind → a ≡ addressOf o
+      → 5 ≤ kind → kind < 8 → action ≡ getD transfers kind (simple illegal) s o
+  stores kind h e f low high =
+      let place : 5 + (kind - 5) ≡ kind = omega arith in
+      h ∙ ap₂ (λ (n m : ℕ). storeTo n s (o .y) m) e f ∙ ap (λ (n : ℕ). storeTo (storedBytes n) s (o .y) (addressOf o)) (sym place)
+      ∙ row (kind - 5) (omega arith) ∙ ap (λ (n : ℕ). getD transfers n (simple illegal) s o) place
+
+  pub none-left : (kind : ℕ) → 8 ≤ kind → illegal o ≡ getD transfers kind (simple illegal) s o
+  unfolding transfers
+  none-left kind h = ap (λ (f : Meaning). f s o) (sym (List·getD-eq-default transfers (simple illegal) {n = kind} h))

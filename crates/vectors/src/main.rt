@@ -5,6 +5,7 @@ use libc::STDOUT_FILENO;
 use processor::Processor;
 use replay::Counts;
 use replay::Progress;
+use timer::Timer;
 ghost use mathlib.Core.Bool.{true};
 ghost use mathlib.Core.Path.{_≡_};
 ghost use Prim.Native.Nat.{_-_, _≤_};
@@ -31,7 +32,7 @@ fn parts_left(n: usize, left: u32) -> u32
 fn replay_file(fd: i32) -> Counts
     ensures { λ r. ⌜ (r .mismatches ≡ 0 → r .ended ≡ true) ⌝ }
 {
-    let mut xrecord = [0u8; 414];
+    let mut xrecord = [0u8; record_layout::LENGTH];
     let mut xram = [0u8; 8192];
     let mut xrom = [0u8; 4096];
     let mut xbelt = [0u8; 1024];
@@ -42,6 +43,7 @@ fn replay_file(fd: i32) -> Counts
     let mut exceptions = [0u32; 32];
     let mut progress = Progress {
         processor: Processor::reset(),
+        timer: Timer::reset(),
         counts: Counts::zero(),
     };
     let mut left = MOST_PARTS;

@@ -2,9 +2,10 @@
 use mathlib.Core.Path.{_≡_, refl, sym, _∙_}
 use mathlib.Core.Bool.{Bool, true, false, not, _&&_, true≢false}
 use mathlib.Core.List.{List, [], _∷_}
+use mathlib.Core.Logic.{_⊎_, inl, inr}
 use Prim.Native.Nat.{ℕ}
 use native.Mathlib.Omega.{arith}
-use Rattle.words.specs.Logic.{both}
+use Rattle.words.specs.Logic.{both, either}
 use Rattle.words.specs.Lists.{Every}
 
 -- ---- what they say
@@ -68,3 +69,18 @@ four a b c d = two ((a && b) && c) d ∙ over (a && b) c d ∙ over a b (both c 
 
 pub five : (a b c d e : Bool) → (((a && b) && c) && d) && e ≡ both a (both b (both c (both d e)))
 five a b c d e = two (((a && b) && c) && d) e ∙ over ((a && b) && c) d e ∙ over (a && b) c (both d e) ∙ over a b (both c (both d e))
+
+pub six : (a b c d e f : Bool) → ((((a && b) && c) && d) && e) && f ≡ both a (both b (both c (both d (both e f))))
+six a b c d e f = two ((((a && b) && c) && d) && e) f ∙ sixth
+  where
+    sixth : both ((((a && b) && c) && d) && e) f ≡ both a (both b (both c (both d (both e f))))
+    sixth = over (((a && b) && c) && d) e f ∙ over ((a && b) && c) d (both e f) ∙ over (a && b) c (both d (both e f)) ∙ over a b (both c (both d (both e f)))
+
+-- ---- one of two
+
+pub either-means : (a b : Bool) → either a b ≡ true → (a ≡ true) ⊎ (b ≡ true)
+either-means true b e = inl refl
+either-means false b e = inr e
+
+pub neither : (a b : Bool) → a ≡ false → b ≡ false → either a b ≡ false
+neither a b e f = rw (e, f)

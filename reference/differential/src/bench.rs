@@ -4,6 +4,7 @@ use crate::watch;
 use crate::world::{Call, Outcome, World};
 use eco32_reference::vectors::observe::Observer;
 use eco32_reference::vectors::tally::Tally;
+use eco32_reference::OLD_RECORD_LENGTH;
 
 /// What differs, in words; the end of the test.
 pub type Difference = String;
@@ -41,6 +42,13 @@ impl Bench {
         tally.add("call", call.name());
         let item = format!("{} {}", call.name(), wanted.refusal());
         tally.add("refusal (0: none)", item);
+        let (read, written) = call.lengths(&self.library);
+        if read == Some(OLD_RECORD_LENGTH) && wanted.refusal() == 0 {
+            tally.add("accepted 414 bytes read", call.name());
+        }
+        if written == Some(OLD_RECORD_LENGTH) && wanted.refusal() == 4 {
+            tally.add("refused 414 bytes written", call.name());
+        }
         Ok(wanted)
     }
 

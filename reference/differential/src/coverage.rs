@@ -50,6 +50,19 @@ fn calls(list: &mut List) {
             list.add("refusal (0: none)", 50, format!("{name} {refusal}"));
         }
     }
+    // Document 02, job 1: what is only read may have 414 bytes.
+    for name in ["read_record", "write_record", "page_view"] {
+        list.add("accepted 414 bytes read", 50, name);
+    }
+    for name in [
+        "reset",
+        "read_record",
+        "write_record",
+        "run",
+        "run_to_exception",
+    ] {
+        list.add("refused 414 bytes written", 50, name);
+    }
     for n in 0..6 {
         let item = format!("{n} at once");
         list.add("causes of refusals 1 to 7", 10, item);
@@ -85,11 +98,12 @@ fn records(list: &mut List) {
         ("Entry Low", 10),
         ("TLB high", 32 * 12),
         ("TLB low", 32 * 10),
+        ("timer control", 6),
     ];
     for (name, count) in bits {
         list.add("never-kept bits", count, name);
     }
-    for kind in ["01", "02", "03", "04", "05"] {
+    for kind in ["01", "02", "03", "04", "05", "06"] {
         list.add("kind byte", 256, kind);
     }
 }
@@ -102,10 +116,12 @@ fn views(list: &mut List) {
             "mapped RAM",
             "mapped ROM",
             "mapped belt",
+            "mapped timer",
             "mapped nothing",
             "direct RAM",
             "direct ROM",
             "direct belt",
+            "direct timer",
             "direct nothing",
             "miss",
             "invalid",
@@ -126,6 +142,9 @@ fn isolation(list: &mut List) {
             "runs of 0 steps",
             "runs refused",
             "runs past the leaving step",
+            "timer not reached",
+            "timer reached",
+            "timer reached writable",
         ],
     );
     for part in PARTS {

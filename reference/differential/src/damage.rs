@@ -3,16 +3,13 @@
 use crate::bench::{Bench, Counts, Difference};
 use crate::runs::{memory, too_many};
 use crate::world::{Call, Lent, Run, World};
-use eco32_reference::record::KIND_BYTES;
+use eco32_reference::record::{CONTROL_AT, KIND_BYTES, REPLACEMENT_AT};
 use eco32_reference::vectors::machines;
 use eco32_reference::vectors::numbers::Numbers;
-use eco32_reference::{MAX_STEPS, RECORD_LENGTH};
-
-/// Offset of the replacement index in the record.
-pub const REPLACEMENT_AT: usize = 413;
+use eco32_reference::{MAX_STEPS, OLD_RECORD_LENGTH, RECORD_LENGTH};
 
 /// A word of the record with the bits that are never kept (document 01,
-/// "Closed by us").
+/// "Closed by us"; document 02, job 1).
 #[derive(Clone, Copy)]
 pub struct NeverKept {
     pub name: &'static str,
@@ -20,7 +17,8 @@ pub struct NeverKept {
     pub bits: u32,
 }
 
-/// All words with such bits; register 0 has no bit at all.
+/// All words with such bits; register 0 has no bit at all, and the timer's
+/// control is the low byte of the last.
 pub fn never_kept() -> Vec<NeverKept> {
     let word = |name, at, bits| NeverKept { name, at, bits };
     let mut words = vec![
@@ -34,21 +32,34 @@ pub fn never_kept() -> Vec<NeverKept> {
         words.push(word("TLB high", 156 + 8 * n, 0x0000_0FFF));
         words.push(word("TLB low", 160 + 8 * n, 0x0000_0FFC));
     }
+    words.push(word("timer control", CONTROL_AT - 3, 0x0000_00FC));
     words
 }
+
+/// The cause that the machine has the length from before the timer.
+const OLD: u32 = 1 << 8;
 
 /// Sets one bit of a record's word, counted from the lowest.
 pub fn set_bit(record: &mut [u8], at: usize, bit: u32) {
     record[at + 3 - bit as usize / 8] |= 1 << (bit % 8);
 }
 
-/// Breaks the rule of refusal 6 in one place.
+/// Breaks the rule of refusal 6 in one place of a record of either length.
 fn unfit(record: &mut [u8], numbers: &mut Numbers) {
-    if numbers.percent(20) {
-        record[REPLACEMENT_AT] = numbers.pick(&[0, 1, 2, 3, 32, 33, 64, 255]);
-        return;
+    match numbers.below(10) {
+        0 | 1 => {
+            record[REPLACEMENT_AT] = numbers.pick(&[0, 1, 2, 3, 32, 33, 64, 255]);
+            return;
+        }
+        2 if record.len() == RECORD_LENGTH => {
+            record[CONTROL_AT] = numbers.pick(&[4, 5, 7, 8, 0x43, 0x80, 255]);
+            return;
+        }
+        _ => {}
     }
-    let word = numbers.pick(&never_kept());
+    let mut words = never_kept();
+    words.retain(|word| word.at + 4 <= record.len());
+    let word = numbers.pick(&words);
     let bits: Vec<u32> = (0..32).filter(|bit| word.bits >> bit & 1 == 1).collect();
     set_bit(record, word.at, numbers.pick(&bits));
 }
@@ -59,12 +70,14 @@ fn damage_record(record: &mut Lent, causes: u32, numbers: &mut Numbers) {
         unfit(record.bytes_mut(), numbers);
     }
     if causes & 2 != 0 {
-        let (at, kind) = numbers.pick(&KIND_BYTES);
-        let other = numbers.pick(&[0, 1, 2, 3, 4, 5, 6, 0x80 | kind, 255]);
+        let mut places = KIND_BYTES.to_vec();
+        places.retain(|&(at, _)| at < record.bytes().len());
+        let (at, kind) = numbers.pick(&places);
+        let other = numbers.pick(&[0, 1, 2, 3, 4, 5, 6, 7, 0x80 | kind, 255]);
         record.bytes_mut()[at] = if other == kind { !kind } else { other };
     }
     if causes & 1 != 0 {
-        let length = numbers.pick(&[0, 1, 129, 413, 415, 416, 828]);
+        let length = numbers.pick(&[0, 1, 129, 413, 415, 416, 423, 425, 828, 848]);
         record.resize(length, numbers.word() as u8);
     }
 }
@@ -75,7 +88,8 @@ fn wrong_length(numbers: &mut Numbers) -> usize {
     numbers.pick(&[0, 1, 1024, 4095, 4097, 6144, 8191, 8193, any])
 }
 
-/// Damages a world as bits 0 to 5 of `causes` say: refusals 1 to 6.
+/// Damages a world as bits 0 to 5 of `causes` say: refusals 1 to 6. With OLD
+/// the machine loses its timer first.
 fn damage(world: &mut World, causes: u32, numbers: &mut Numbers) {
     if causes & 1 != 0 {
         world.ram.resize(wrong_length(numbers), 0x11);
@@ -87,12 +101,21 @@ fn damage(world: &mut World, causes: u32, numbers: &mut Numbers) {
         let length = numbers.pick(&[0, 1, 1020, 1023, 1025, 1028, 4096]);
         world.belt.resize(length, 0x33);
     }
+    if causes & OLD != 0 {
+        world.machine.resize(OLD_RECORD_LENGTH, 0);
+    }
     damage_record(&mut world.machine, causes >> 3, numbers);
 }
 
 /// The refusal of a call on a world with these causes; bit 6 is too many
-/// steps, bit 7 a record buffer of another length.
+/// steps, bit 7 a record buffer of another length, and OLD a machine that may
+/// be read but not written.
 fn first_refusal(call: Call, causes: u32) -> u32 {
+    let written = matches!(call, Call::Reset | Call::Run(_));
+    let causes = match causes & OLD {
+        OLD if written => causes | 1 << 3,
+        _ => causes,
+    };
     let taken: &[u32] = match call {
         Call::Reset => &[4],
         Call::ReadRecord | Call::WriteRecord => &[4, 5, 6],
@@ -111,7 +134,7 @@ fn first_refusal(call: Call, causes: u32) -> u32 {
 pub fn case(numbers: &mut Numbers, counts: &mut Counts) -> Result<(), Difference> {
     let scene = machines::machine(memory(numbers), numbers);
     let sparse = numbers.percent(60);
-    let causes = (0..8).fold(0, |causes, n| {
+    let causes = (0..9).fold(0, |causes, n| {
         let set = numbers.percent(if sparse { 15 } else { 45 });
         causes | u32::from(set) << n
     });
@@ -120,7 +143,7 @@ pub fn case(numbers: &mut Numbers, counts: &mut Counts) -> Result<(), Difference
     if causes & 0x80 != 0 {
         world
             .record
-            .resize(numbers.pick(&[0, 413, 415, 1000]), 0x55);
+            .resize(numbers.pick(&[0, 413, 414, 423, 425, 1000]), 0x55);
     }
     let wanted = if causes & 0x40 != 0 {
         too_many(numbers)

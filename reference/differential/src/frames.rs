@@ -2,11 +2,14 @@
 
 use crate::world::World;
 use eco32_reference::memory::{BELT_BASE, ROM_BASE};
+use eco32_reference::timer::CONTROL_ADDRESS;
 use eco32_reference::Processor;
 use std::collections::BTreeSet;
 use std::ops::Range;
 
 pub const FRAME: usize = 4096;
+/// Number of the timer's frame. Its bytes stand in the record.
+pub const TIMER_FRAME: u32 = CONTROL_ADDRESS >> 12;
 
 /// Frame numbers reached, and those reached writable, by the TLB at the start.
 pub struct Reached {
@@ -37,7 +40,7 @@ impl Reached {
     }
 }
 
-/// The parts of memory that lie in frames.
+/// The parts of lent memory that lie in frames.
 #[derive(Clone, Copy, Debug, PartialEq, Eq)]
 pub enum Part {
     Ram,

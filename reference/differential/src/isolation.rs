@@ -1,14 +1,15 @@
 //! Pairs of machines in User Mode that differ only in frames which no valid
-//! user page reaches, given one list of runs.
+//! user page reaches, given one list of runs. Their timers are equal (document
+//! 02, job 1).
 
 use crate::bench::{Bench, Counts, Difference};
-use crate::frames::{frames, Frame, Part, Reached};
+use crate::frames::{frames, Frame, Part, Reached, TIMER_FRAME};
 use crate::runs::{agree, list, memory, stream, walk, wanted_steps};
 use crate::world::{Call, Outcome, Run, World};
 use eco32_reference::vectors::machines;
 use eco32_reference::vectors::numbers::Numbers;
 use eco32_reference::vectors::scene::Scene;
-use eco32_reference::{MAX_STEPS, NO_EXCEPTION};
+use eco32_reference::{read_record, Timer, MAX_STEPS, NO_EXCEPTION};
 
 /// Offsets of the special registers and of the TLB with the replacement index
 /// in the record.
@@ -47,6 +48,20 @@ impl Pair {
         }
     }
 
+    /// How User Mode reaches a timer that runs.
+    fn count_timer(&self, counts: &mut Counts) {
+        if timer_of(&self.starts[0]).divisor == 0 {
+            return;
+        }
+        let reached = &self.reached;
+        let item = match reached.readable.contains(&TIMER_FRAME) {
+            false => "timer not reached",
+            true if reached.writable.contains(&TIMER_FRAME) => "timer reached writable",
+            true => "timer reached",
+        };
+        counts.calls.add("isolation", item);
+    }
+
     /// One run of both; their answers.
     fn run(&mut self, run: Run, counts: &mut Counts) -> Result<[Outcome; 2], Difference> {
         let call = Call::Run(run);
@@ -54,8 +69,8 @@ impl Pair {
         Ok([first, call.library(&mut self.second)])
     }
 
-    /// The claim, where no step behind the leaving one was made.
-    fn holds(&self, answers: [Outcome; 2], user: bool) -> Result<(), Difference> {
+    /// The claim after so many steps, where none behind the leaving one was made.
+    fn holds(&self, answers: [Outcome; 2], user: bool, steps: u64) -> Result<(), Difference> {
         let worlds = [&self.first.library, &self.second];
         let [first, second] = worlds.map(|world| world.machine.bytes());
         if answers[0] != answers[1] {
@@ -71,7 +86,24 @@ impl Pair {
         if user && first[SPECIALS] != start[SPECIALS] {
             return Err("a special register changed in User Mode".to_string());
         }
+        self.timer_holds(steps)?;
         self.frames_hold(worlds)
+    }
+
+    /// The timer only ticks where its frame is not reached writable.
+    fn timer_holds(&self, steps: u64) -> Result<(), Difference> {
+        if self.reached.writable.contains(&TIMER_FRAME) {
+            return Ok(());
+        }
+        let mut timer = timer_of(&self.starts[0]);
+        for _ in 0..steps {
+            timer.tick();
+        }
+        let found = timer_of(&self.first.library);
+        if found != timer {
+            return Err(format!("{found:?} after {steps} ticks, not {timer:?}"));
+        }
+        Ok(())
     }
 
     fn frames_hold(&self, worlds: [&World; 2]) -> Result<(), Difference> {
@@ -92,6 +124,10 @@ impl Pair {
         }
         Ok(())
     }
+}
+
+fn timer_of(world: &World) -> Timer {
+    read_record(world.machine.bytes()).1.timer
 }
 
 /// Gives a frame other bytes: all of them, or a few.
@@ -162,13 +198,16 @@ pub fn case(numbers: &mut Numbers, counts: &mut Counts) -> Result<(), Difference
     let mut pair = Pair::new(&scene, numbers, counts);
     counts.steps.begin(wanted_steps(&list));
     counts.calls.add("isolation", "pairs");
+    pair.count_timer(counts);
     let mut leaving = Leaving::default();
+    let mut steps = 0;
     for (n, mut run) in list.into_iter().enumerate() {
         let cut = !run.to_exception && run.wanted <= MAX_STEPS && numbers.percent(70);
         let walked = follow(&mut scene, &run, cut, &mut leaving, counts);
         if cut {
             run.wanted = walked.0;
         }
+        steps += walked.0;
         pair.run(run, counts)
             .and_then(|answers| {
                 agree(answers[0], walked, &scene, &pair.first)?;
@@ -176,7 +215,7 @@ pub fn case(numbers: &mut Numbers, counts: &mut Counts) -> Result<(), Difference
                 if leaving.passed {
                     return Ok(());
                 }
-                pair.holds(answers, leaving.eid.is_none())
+                pair.holds(answers, leaving.eid.is_none(), steps)
             })
             .map_err(|what| format!("pair, run {n}: {what}"))?;
         if leaving.passed {

@@ -2,14 +2,14 @@
 //! every length near the right one, every set of causes, the largest memory.
 
 use crate::bench::{Bench, Counts, Difference};
-use crate::damage::{never_kept, set_bit, REPLACEMENT_AT};
+use crate::damage::{never_kept, set_bit};
 use crate::world::{Call, Lent, Run, World};
 use eco32_reference::asm::{addi, j, stw};
-use eco32_reference::record::KIND_BYTES;
+use eco32_reference::record::{readable, CONTROL_AT, KIND_BYTES, REPLACEMENT_AT};
 use eco32_reference::vectors::machines;
 use eco32_reference::vectors::numbers::Numbers;
 use eco32_reference::vectors::scene::Scene;
-use eco32_reference::{MAX_STEPS, RECORD_LENGTH};
+use eco32_reference::{MAX_STEPS, OLD_RECORD_LENGTH, RECORD_LENGTH};
 
 const RAM_MOST: usize = 536_870_912;
 const ROM_MOST: usize = 268_435_456;
@@ -50,18 +50,28 @@ fn full_world() -> World {
         entry.high = numbers.word() & 0xFFFF_F000;
         entry.low = numbers.word() & 0xFFFF_F003;
     }
-    World::of(&scene)
+    World::of(&scene.with_timer(0x0102_0304, 0x0506_0708, 2))
 }
 
-/// Each call that takes a machine, and reading the same bytes as a record.
+/// The same with its machine in a record from before the timer.
+fn old_world() -> World {
+    let mut world = full_world();
+    world.machine.resize(OLD_RECORD_LENGTH, 0);
+    world
+}
+
+/// Each call that takes a machine, and reading the same bytes as a record. A
+/// run writes its machine, so it takes no old one.
 fn each_call(world: &World, refusal: u32, counts: &mut Counts) -> Result<(), Difference> {
-    let calls = RUNS.map(Call::Run);
-    for call in calls.into_iter().chain([Call::WriteRecord]) {
-        Bench::new(world.clone()).expect(call, refusal, &mut counts.calls)?;
+    let old = world.machine.bytes().len() == OLD_RECORD_LENGTH;
+    for run in RUNS.map(Call::Run) {
+        let refusal = if old { 4 } else { refusal };
+        Bench::new(world.clone()).expect(run, refusal, &mut counts.calls)?;
     }
     // A fit machine has a frame behind its direct-mapped pages.
-    let view = Call::PageView(0xC0001);
-    Bench::new(world.clone()).expect(view, refusal, &mut counts.calls)?;
+    for call in [Call::WriteRecord, Call::PageView(0xC0001)] {
+        Bench::new(world.clone()).expect(call, refusal, &mut counts.calls)?;
+    }
     let mut reading = world.clone();
     std::mem::swap(&mut reading.record, &mut reading.machine);
     Bench::new(reading).expect(Call::ReadRecord, refusal, &mut counts.calls)?;
@@ -71,29 +81,42 @@ fn each_call(world: &World, refusal: u32, counts: &mut Counts) -> Result<(), Dif
 fn never_kept_bits(counts: &mut Counts) -> Result<(), Difference> {
     for word in never_kept() {
         for bit in (0..32).filter(|bit| word.bits >> bit & 1 == 1) {
-            let mut world = full_world();
-            set_bit(world.machine.bytes_mut(), word.at, bit);
-            each_call(&world, 6, counts)?;
+            for mut world in [full_world(), old_world()] {
+                if word.at + 4 <= world.machine.bytes().len() {
+                    set_bit(world.machine.bytes_mut(), word.at, bit);
+                    each_call(&world, 6, counts)?;
+                }
+            }
             counts.calls.add("never-kept bits", word.name);
         }
     }
     Ok(())
 }
 
-/// All values of each kind byte and of the replacement index.
+/// Each call on a machine of either length with one byte changed, if it has it.
+fn with_byte(at: usize, value: u8, refusal: u32, counts: &mut Counts) -> Result<(), Difference> {
+    for mut world in [full_world(), old_world()] {
+        if let Some(byte) = world.machine.bytes_mut().get_mut(at) {
+            *byte = value;
+            each_call(&world, refusal, counts)?;
+        }
+    }
+    Ok(())
+}
+
+/// All values of each kind byte, of the replacement index and of the timer's
+/// control.
 fn bytes_of_the_record(counts: &mut Counts) -> Result<(), Difference> {
     for value in 0..=255 {
         for (at, kind) in KIND_BYTES {
-            let mut world = full_world();
-            world.machine.bytes_mut()[at] = value;
             let refusal = if value == kind { 0 } else { 5 };
-            each_call(&world, refusal, counts)?;
+            with_byte(at, value, refusal, counts)?;
             counts.calls.add("kind byte", format!("{kind:02X}"));
         }
-        let mut world = full_world();
-        world.machine.bytes_mut()[REPLACEMENT_AT] = value;
         let refusal = if (4..32).contains(&value) { 0 } else { 6 };
-        each_call(&world, refusal, counts)?;
+        with_byte(REPLACEMENT_AT, value, refusal, counts)?;
+        let refusal = if value < 4 { 0 } else { 6 };
+        with_byte(CONTROL_AT, value, refusal, counts)?;
     }
     Ok(())
 }
@@ -101,14 +124,19 @@ fn bytes_of_the_record(counts: &mut Counts) -> Result<(), Difference> {
 /// Record buffers of all lengths up to twice the right one.
 fn lengths_of_buffers(counts: &mut Counts) -> Result<(), Difference> {
     for length in (0..=2 * RECORD_LENGTH).chain([4096, 65_536]) {
-        let refusal = if length == RECORD_LENGTH { 0 } else { 4 };
+        let reading = if readable(length) { 0 } else { 4 };
+        let writing = if length == RECORD_LENGTH { 0 } else { 4 };
         let mut world = full_world();
         world.machine.resize(length, 1);
-        each_call(&world, refusal, counts)?;
-        Bench::new(world).expect(Call::Reset, refusal, &mut counts.calls)?;
-        let mut world = full_world();
-        world.record.resize(length, 1);
-        Bench::new(world).expect(Call::WriteRecord, refusal, &mut counts.calls)?;
+        each_call(&world, reading, counts)?;
+        Bench::new(world).expect(Call::Reset, writing, &mut counts.calls)?;
+        for mut world in [full_world(), old_world()] {
+            world.record.resize(length, 1);
+            let mut bench = Bench::new(world.clone());
+            bench.expect(Call::WriteRecord, writing, &mut counts.calls)?;
+            std::mem::swap(&mut world.record, &mut world.machine);
+            Bench::new(world).expect(Call::ReadRecord, writing, &mut counts.calls)?;
+        }
     }
     Ok(())
 }
@@ -148,9 +176,10 @@ fn lengths_of_memory(counts: &mut Counts) -> Result<(), Difference> {
     Ok(())
 }
 
-/// All sets of the causes 1 to 7, for both kinds of run.
+/// All sets of the causes 1 to 7, for both kinds of run, with several lengths
+/// that a run takes no machine of.
 fn sets_of_causes(counts: &mut Counts) -> Result<(), Difference> {
-    for causes in 0..128u32 {
+    for (causes, length) in (0..128u32).flat_map(|causes| [413, 414, 423].map(|n| (causes, n))) {
         let holds = |refusal: u32| causes >> (refusal - 1) & 1 == 1;
         let mut world = full_world();
         if holds(6) {
@@ -160,7 +189,7 @@ fn sets_of_causes(counts: &mut Counts) -> Result<(), Difference> {
             world.machine.bytes_mut()[129] = 3;
         }
         if holds(4) {
-            world.machine.resize(413, 0);
+            world.machine.resize(length, 0);
         }
         for (refusal, lent) in [
             (1, &mut world.ram),
@@ -181,7 +210,8 @@ fn sets_of_causes(counts: &mut Counts) -> Result<(), Difference> {
     Ok(())
 }
 
-/// Counts of steps at the limit and far past it, on a loop without exceptions.
+/// Counts of steps at the limit and far past it, on a loop without exceptions,
+/// with the timer off and running.
 fn numbers_of_steps(counts: &mut Counts) -> Result<(), Difference> {
     let mut scene = Scene::new();
     for (n, word) in [addi(1, 1, 1), stw(1, 2, 0x80), j(-3)]
@@ -191,10 +221,13 @@ fn numbers_of_steps(counts: &mut Counts) -> Result<(), Difference> {
         scene.put(0x2000_0000 + 4 * n as u32, word);
     }
     let scene = scene.set(2, 0xC000_0000);
+    let timed = scene.clone().with_timer(1009, 1, 2);
     for wanted in [0, 1, 2, MAX_STEPS - 1, MAX_STEPS] {
         for run in [plain(wanted), to_exception(wanted)] {
-            let mut bench = Bench::new(World::of(&scene));
-            bench.expect(Call::Run(run), 0, &mut counts.calls)?;
+            for scene in [&scene, &timed] {
+                let mut bench = Bench::new(World::of(scene));
+                bench.expect(Call::Run(run), 0, &mut counts.calls)?;
+            }
             let item = format!("{} of {wanted} steps", Call::Run(run).name());
             counts.calls.add("steps of one run", item);
         }

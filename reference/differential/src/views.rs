@@ -1,4 +1,4 @@
-//! Page views of random machines.
+//! Page views of random machines, with records of both lengths.
 
 use crate::bench::{Bench, Counts, Difference};
 use crate::runs::memory;
@@ -6,6 +6,7 @@ use crate::world::{Call, Outcome, World};
 use eco32_reference::vectors::machines;
 use eco32_reference::vectors::numbers::Numbers;
 use eco32_reference::vectors::scene::Scene;
+use eco32_reference::OLD_RECORD_LENGTH;
 
 /// Pages to look at: those of the TLB and their neighbours, the first and last
 /// of each space and of RAM, and numbers that no page has.
@@ -19,7 +20,7 @@ fn pages(scene: &Scene, numbers: &mut Numbers) -> Vec<u64> {
     }
     let end = scene.ram.len() as u64 / 4096;
     pages.extend([
-        0, 0x7FFFF, 0x80000, 0xBFFFF, 0xC0000, 0xC0001, 0xE0000, 0xF0500,
+        0, 0x7FFFF, 0x80000, 0xBFFFF, 0xC0000, 0xC0001, 0xE0000, 0xF0000, 0xF0500,
     ]);
     pages.extend([0xC0000 + end - 1, 0xC0000 + end, 0xFFFFE, 0xFFFFF, 0x100000]);
     for _ in 0..6 {
@@ -48,8 +49,8 @@ fn kind(scene: &Scene, page: u64) -> String {
     match low {
         None => "miss".to_string(),
         Some(low) if low & 1 == 0 => "invalid".to_string(),
-        Some(low) => match scene.locate(low & !0xFFF) {
-            Some((region, _)) => format!("{space} {}", region.name()),
+        Some(low) => match scene.answering(low & !0xFFF) {
+            Some(place) => format!("{space} {place}"),
             None => format!("{space} nothing"),
         },
     }
@@ -57,7 +58,11 @@ fn kind(scene: &Scene, page: u64) -> String {
 
 pub fn case(numbers: &mut Numbers, counts: &mut Counts) -> Result<(), Difference> {
     let scene = machines::machine(memory(numbers), numbers);
-    let mut bench = Bench::new(World::of(&scene));
+    let mut world = World::of(&scene);
+    if numbers.percent(50) {
+        world.machine.resize(OLD_RECORD_LENGTH, 0);
+    }
+    let mut bench = Bench::new(world);
     for page in pages(&scene, numbers) {
         let kind = kind(&scene, page);
         let in_ram = kind.ends_with("RAM");

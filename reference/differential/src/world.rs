@@ -167,6 +167,18 @@ impl Call {
         }
     }
 
+    /// Lengths of the record that it only reads and of the one that it writes.
+    pub fn lengths(&self, world: &World) -> (Option<usize>, Option<usize>) {
+        let record = Some(world.record.bytes().len());
+        let machine = Some(world.machine.bytes().len());
+        match self {
+            Call::Reset | Call::Run(_) => (None, machine),
+            Call::ReadRecord => (record, machine),
+            Call::WriteRecord => (machine, record),
+            Call::PageView(_) => (machine, None),
+        }
+    }
+
     /// The call by the library.
     pub fn library(&self, world: &mut World) -> Outcome {
         let World {

@@ -4,9 +4,11 @@ use super::mnemonics::{group, mnemonic, Group};
 use super::observe::{mode_name, Step};
 use super::scene::Region;
 use super::tally::Tally;
+use super::timing;
 use crate::memory::Width;
 use crate::mmu::Access;
 use crate::processor::Processor;
+use crate::timer::CONTROL_ADDRESS;
 
 /// How far past the end of a region counts as just past it.
 const NEAR: u32 = 64;
@@ -41,6 +43,9 @@ pub fn translation(tally: &mut Tally, cpu: &Processor, address: u32, kind: &str,
     if let Some(index) = cpu.find_entry(address) {
         if eid == 16 && cpu.tlb[index].low >= 0x4000_0000 {
             tally.add("frame from 40000000", kind);
+        }
+        if cpu.tlb[index].low & !3 == CONTROL_ADDRESS {
+            tally.add("page of the timer", format!("{kind} {result} {mode}"));
         }
     }
     let lows: Vec<u32> = cpu
@@ -101,13 +106,14 @@ pub fn data(tally: &mut Tally, step: &Step) {
 /// Where the access goes, or past which end.
 fn place(tally: &mut Tally, step: &Step, physical: u32) {
     let name = mnemonic(step.opcode());
-    if let Some((region, _)) = step.scene.locate(physical) {
+    if let Some(place) = step.scene.answering(physical) {
         let item = match step.eid {
-            16 => format!("{name} {} 16", region.name()),
-            _ => format!("{name} {}", region.name()),
+            16 => format!("{name} {place} 16"),
+            _ => format!("{name} {place}"),
         };
         tally.add("data access", item);
     }
+    timing::access(tally, step, physical);
     for region in Region::ALL {
         let end = region.base() + step.scene.length(region);
         if physical.checked_sub(end).is_some_and(|past| past < NEAR) {
@@ -157,7 +163,8 @@ fn order(tally: &mut Tally, step: &Step, address: u32) {
     if store && step.eid == 23 && step.before.tlb[index].low & 3 == 0 {
         tally.add("order of faults", "valid bit before write bit");
     }
-    if store && step.eid == 22 && step.scene.locate(step.before.tlb[index].low & !3).is_none() {
+    let frame = step.before.tlb[index].low & !3;
+    if store && step.eid == 22 && step.scene.answering(frame).is_none() {
         tally.add("order of faults", "write bit before bus timeout");
     }
 }

@@ -73,6 +73,8 @@ fn target(scene: &Scene, numbers: &mut Numbers) -> u32 {
             0xC000_2000,
             0xE000_1000,
             0xF050_0400,
+            0xF000_0008,
+            0xF00F_FFFC,
         ]),
         1..=4 if !user => direct_address(scene, numbers),
         _ => mapped_address(scene, numbers, limit).unwrap_or(0x0000_3000),

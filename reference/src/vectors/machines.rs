@@ -4,11 +4,15 @@ use super::numbers::Numbers;
 use super::observe::EDGES;
 use super::scene::{Region, Scene, RAM_LENGTH};
 use crate::memory::Width;
-use crate::mmu::Access;
-use crate::processor::{KEPT_HIGH, KEPT_INDEX, KEPT_LOW, KEPT_PSW, PSW_IC, PSW_UC, PSW_V};
+use crate::mmu::{Access, DIRECT_BASE};
+use crate::processor::{
+    TlbEntry, KEPT_HIGH, KEPT_INDEX, KEPT_LOW, KEPT_PSW, PSW_IC, PSW_UC, PSW_V,
+};
+use crate::timer::{Timer, CONTROL_ADDRESS};
 
-/// Frames with RAM, with ROM, with the belt registers, and just past them.
-const FRAMES: [u32; 8] = [
+/// Frames with RAM, with ROM, with the belt registers, just past them, and
+/// that of the timer.
+const FRAMES: [u32; 9] = [
     0x0000_0000,
     0x0000_1000,
     0x0000_1000,
@@ -17,6 +21,7 @@ const FRAMES: [u32; 8] = [
     0x3050_0000,
     0x0000_2000,
     0x2000_1000,
+    CONTROL_ADDRESS,
 ];
 
 /// Pages in both mapped spaces and at their ends.
@@ -44,27 +49,35 @@ pub fn operand(numbers: &mut Numbers) -> u32 {
     }
 }
 
-/// An aligned address in a region, by the direct-mapped space.
+/// Offset of a word in the timer's frame: most often one of its registers.
+fn timer_offset(numbers: &mut Numbers) -> u32 {
+    numbers.pick(&[0, 0, 0, 4, 4, 4, 8, 0xFFC])
+}
+
+/// An aligned address in a region or in the timer's frame, by the
+/// direct-mapped space.
 pub fn direct_address(scene: &Scene, numbers: &mut Numbers) -> u32 {
+    if numbers.percent(10) {
+        return DIRECT_BASE + CONTROL_ADDRESS + timer_offset(numbers);
+    }
     let region = numbers.pick(&Region::ALL);
     region.direct() + (numbers.below(scene.length(region)) & !3)
 }
 
 /// An address in the page of a TLB entry below `limit`, if there is one.
 pub fn mapped_address(scene: &Scene, numbers: &mut Numbers, limit: u32) -> Option<u32> {
-    let pages: Vec<u32> = scene
-        .cpu
-        .tlb
-        .iter()
-        .filter(|entry| entry.high < limit)
-        .map(|entry| entry.high)
-        .collect();
-    if pages.is_empty() {
+    let entries = scene.cpu.tlb.iter().copied();
+    let below: Vec<TlbEntry> = entries.filter(|entry| entry.high < limit).collect();
+    if below.is_empty() {
         return None;
+    }
+    let entry = numbers.pick(&below);
+    if entry.low & !3 == CONTROL_ADDRESS {
+        return Some(entry.high + timer_offset(numbers));
     }
     // Most offsets lie inside the belt registers too.
     let reach = if numbers.percent(80) { 1024 } else { 4096 };
-    Some(numbers.pick(&pages) + (numbers.below(reach) & !3))
+    Some(entry.high + (numbers.below(reach) & !3))
 }
 
 /// Whether a word could be fetched at an address.
@@ -93,6 +106,7 @@ pub fn machine(mut scene: Scene, numbers: &mut Numbers) -> Scene {
         }
     }
     scene.cpu.replacement = 4 + numbers.below(28) as u8;
+    scene.cpu.timer = timer(numbers);
     registers(&mut scene, numbers, full);
     scene.cpu.pc = first_pc(&scene, numbers);
     scene
@@ -104,6 +118,26 @@ fn status(numbers: &mut Numbers) -> u32 {
     let enable = if numbers.percent(40) { PSW_IC } else { 0 };
     let lower = numbers.word() & 0x037F_FFFF;
     (mode | v | enable | lower) & KEPT_PSW
+}
+
+/// A timer at zero in half of all machines; most others wrap in few steps.
+fn timer(numbers: &mut Numbers) -> Timer {
+    if numbers.percent(50) {
+        return Timer::default();
+    }
+    Timer {
+        divisor: ticks(numbers),
+        counter: ticks(numbers),
+        control: numbers.below(4) as u8,
+    }
+}
+
+fn ticks(numbers: &mut Numbers) -> u32 {
+    match numbers.below(10) {
+        0 => 0,
+        1 => numbers.word(),
+        _ => 1 + numbers.below(12),
+    }
 }
 
 /// A frame for a TLB entry; any frame of a RAM longer than that of the set.

@@ -13,10 +13,13 @@ pub mod numbers;
 pub mod observe;
 mod operands;
 pub mod required;
+mod required_timer;
 pub mod scene;
 pub mod stream;
 mod system;
 pub mod tally;
+mod timer;
+mod timing;
 mod transfer;
 pub mod turn;
 pub mod writer;
@@ -29,7 +32,7 @@ use turn::Turn;
 use writer::Writer;
 
 const SEED: u64 = 0x0EC0_0032;
-const STREAMS: usize = 1_700;
+const STREAMS: usize = 1_380;
 
 /// Takes the cases of the set, one by one.
 pub trait Sink {
@@ -53,6 +56,7 @@ pub fn cases(sink: &mut dyn Sink) {
     system::cases(sink, &mut turn, &mut numbers);
     interrupts::cases(sink, &mut turn, &mut numbers);
     ignored::cases(sink, &mut turn, &mut numbers);
+    timer::cases(sink, &mut turn, &mut numbers);
     for _ in 0..STREAMS {
         let steps = 1 + numbers.below(20);
         let stream = Stream::random(&mut numbers, steps);

@@ -63,6 +63,11 @@ impl Step<'_> {
     pub fn completed(&self) -> bool {
         self.eid == NO_EXCEPTION
     }
+
+    /// Lines of all channels, the host's and the timer's.
+    fn channels(&self) -> u32 {
+        u32::from(self.lines | self.before.timer.lines())
+    }
 }
 
 #[derive(Default)]
@@ -70,12 +75,15 @@ pub struct Observer {
     pub tally: Tally,
     /// Opcode that completed in the step before, within one case.
     previous: Option<u32>,
+    /// What raised the timer's line in the step before.
+    pub(super) raised: Option<&'static str>,
 }
 
 impl Observer {
     /// A case of so many steps begins.
     pub fn begin(&mut self, steps: usize) {
         self.previous = None;
+        self.raised = None;
         self.tally.add("set", "cases");
         let length = match steps {
             0..=1 => "of 1 step",
@@ -105,6 +113,7 @@ impl Observer {
 
     fn count(&mut self, step: &Step) {
         self.general(step);
+        self.timer(step);
         self.interrupt_lines(step);
         if step.eid < 16 {
             self.accepted_interrupt(step);
@@ -150,8 +159,8 @@ impl Observer {
     /// Lines that no interrupt answers.
     fn interrupt_lines(&mut self, step: &Step) {
         let psw = step.before.psw;
-        let ready = u32::from(step.lines) & psw & 0xFFFF;
-        if step.lines != 0 && ready == 0 && psw & PSW_IC != 0 {
+        let ready = step.channels() & psw;
+        if step.channels() != 0 && ready == 0 && psw & PSW_IC != 0 {
             self.tally.add("interrupt", "masked by IEN");
         }
         if ready != 0 && psw & PSW_IC == 0 {
@@ -161,14 +170,14 @@ impl Observer {
 
     fn accepted_interrupt(&mut self, step: &Step) {
         let (channel, psw) = (step.eid, step.before.psw);
-        let ready = u32::from(step.lines) & psw & 0xFFFF;
+        let ready = step.channels() & psw;
         let alone = if ready.count_ones() == 1 {
             "alone"
         } else {
             "among several"
         };
         self.tally.add("channel", format!("{channel} {alone}"));
-        if u32::from(step.lines) & !psw & ((1 << channel) - 1) != 0 {
+        if step.channels() & !psw & ((1 << channel) - 1) != 0 {
             self.tally.add("interrupt", "above a masked line");
         }
         let instead = match step.fetched {
@@ -196,7 +205,7 @@ impl Observer {
         if step.completed() && pc < 0x0000_1000 && next >= 0xFFFF_0000 {
             self.tally.add("PC", "back past 00000000");
         }
-        for edge in [0x8000_0000, 0xC000_0000] {
+        for edge in [0x8000_0000, 0xC000_0000, 0xF000_0008] {
             if step.completed() && pc == edge - 4 && next == edge {
                 self.tally.add("PC", format!("on to {edge:08X}"));
             }
@@ -206,9 +215,8 @@ impl Observer {
     fn fetched(&mut self, step: &Step, physical: u32) {
         let pc = step.before.pc;
         let how = if pc < 0xC000_0000 { "mapped" } else { "direct" };
-        if let Some((region, _)) = step.scene.locate(physical) {
-            let item = format!("{} {how}", region.name());
-            self.tally.add("fetch", item);
+        if let Some(place) = step.scene.answering(physical) {
+            self.tally.add("fetch", format!("{place} {how}"));
         }
         access::translation(&mut self.tally, step.before, pc, "fetch", NO_EXCEPTION);
     }

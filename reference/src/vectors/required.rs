@@ -2,19 +2,20 @@
 
 use super::mnemonics::{group, ignored_bits, mnemonic, opcodes, Group};
 use super::observe::{EDGES, EDGE_IMMEDIATES, EDGE_OFFSETS, SHIFT_COUNTS};
+use super::required_timer::timer;
 use super::tally::Required;
 
-const MODES: [&str; 2] = ["User Mode", "Kernel Mode"];
-const TRANSFERS: std::ops::RangeInclusive<u32> = 0x30..=0x37;
+pub(super) const MODES: [&str; 2] = ["User Mode", "Kernel Mode"];
+pub(super) const TRANSFERS: std::ops::RangeInclusive<u32> = 0x30..=0x37;
 /// Special register numbers that the set moves from and to.
 pub const SPECIAL_NUMBERS: [u32; 9] = [0, 1, 2, 3, 4, 5, 0x0100, 0x8000, 0xFFFF];
 
 /// List of required items, built heading by heading.
 #[derive(Default)]
-struct List(Vec<Required>);
+pub(super) struct List(Vec<Required>);
 
 impl List {
-    fn add(&mut self, heading: &'static str, least: u64, item: impl Into<String>) {
+    pub(super) fn add(&mut self, heading: &'static str, least: u64, item: impl Into<String>) {
         self.0.push(Required {
             heading,
             item: item.into(),
@@ -43,6 +44,7 @@ pub fn required() -> Vec<Required> {
     translations(&mut list);
     system(&mut list);
     interrupts(&mut list);
+    timer(&mut list);
     list.0
 }
 
@@ -182,6 +184,7 @@ fn control(list: &mut List) {
             "ends in 3",
             "on to 80000000",
             "on to C0000000",
+            "on to F0000008",
             "back past 00000000",
             "FFFFFFFC, EID 16",
             "FFFFFFFC, EID 25",
@@ -191,7 +194,7 @@ fn control(list: &mut List) {
 }
 
 fn accesses(list: &mut List) {
-    for region in ["RAM", "ROM", "belt"] {
+    for region in ["RAM", "ROM", "belt", "timer"] {
         list.add("fetch", 24, format!("{region} direct"));
         list.add("fetch", 24, format!("{region} mapped"));
     }
@@ -204,9 +207,13 @@ fn accesses(list: &mut List) {
     for opcode in TRANSFERS {
         let name = mnemonic(opcode);
         let word = matches!(name, "LDW" | "STW");
-        let on_belt = if word { "belt" } else { "belt 16" };
-        for place in ["RAM", "ROM", on_belt] {
+        for place in ["RAM", "ROM"] {
             list.add("data access", 6, format!("{name} {place}"));
+        }
+        // These answer to words alone.
+        for place in ["belt", "timer"] {
+            let fault = if word { "" } else { " 16" };
+            list.add("data access", 6, format!("{name} {place}{fault}"));
         }
     }
     data_faults(list);

@@ -4,12 +4,13 @@ use crate::exception::Fault;
 use crate::memory::{Memory, Width, BELT_BASE, ROM_BASE};
 use crate::mmu::{Access, DIRECT_BASE};
 use crate::processor::{Processor, TlbEntry, PSW_UC};
+use crate::timer::{self, Timer};
 
 pub const RAM_LENGTH: usize = 8192;
 pub const ROM_LENGTH: usize = 4096;
 pub const BELT_LENGTH: usize = 1024;
 
-/// Parts of the physical address space.
+/// Parts of the physical address space that are lent memory.
 #[derive(Clone, Copy, Debug, PartialEq, Eq)]
 pub enum Region {
     Ram,
@@ -86,6 +87,14 @@ impl Scene {
         })
     }
 
+    /// Name of what answers a word at a physical address.
+    pub fn answering(&self, physical: u32) -> Option<&'static str> {
+        match timer::register_at(physical & !3, Width::Word) {
+            Some(_) => Some("timer"),
+            None => self.locate(physical).map(|(region, _)| region.name()),
+        }
+    }
+
     pub fn region_mut(&mut self, region: Region) -> &mut [u8] {
         match region {
             Region::Ram => &mut self.ram,
@@ -116,6 +125,15 @@ impl Scene {
         self
     }
 
+    pub fn with_timer(mut self, divisor: u32, counter: u32, control: u8) -> Scene {
+        self.cpu.timer = Timer {
+            divisor,
+            counter,
+            control,
+        };
+        self
+    }
+
     pub fn memory(&mut self) -> Memory<'_> {
         Memory {
             ram: &mut self.ram,
@@ -140,6 +158,9 @@ impl Scene {
     /// The word at the PC, if it can be fetched, with its physical address.
     pub fn fetched(&self) -> Result<(u32, u32), Fault> {
         let physical = self.physical(self.cpu.pc, Width::Word, Access::Load)?;
+        if let Some(register) = timer::register_at(physical, Width::Word) {
+            return Ok((physical, self.cpu.timer.load(register)));
+        }
         let (region, at) = self.locate(physical).ok_or(Fault::BusTimeout)?;
         let word = self.region(region)[at..at + 4]
             .iter()

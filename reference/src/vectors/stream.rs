@@ -1,6 +1,6 @@
 //! Random instruction streams. The word at the PC is chosen when it is first
-//! fetched, unless the stream has read or written it before; it then stands
-//! in the machine from the start.
+//! fetched from memory, unless the stream has read or written it before; it
+//! then stands in the machine from the start.
 
 use super::choose;
 use super::machines;
@@ -57,7 +57,8 @@ impl Stream {
     /// Makes one step; answers its EID, or 32.
     pub fn step(&mut self, numbers: &mut Numbers, lines: u16) -> u32 {
         let psw = self.now.cpu.psw;
-        let interrupted = psw & PSW_IC != 0 && psw & u32::from(lines) != 0;
+        let ready = psw & u32::from(lines | self.now.cpu.timer.lines());
+        let interrupted = psw & PSW_IC != 0 && ready != 0;
         if !interrupted {
             self.choose(numbers);
         }
@@ -69,7 +70,8 @@ impl Stream {
         let Ok((physical, mut word)) = self.now.fetched() else {
             return;
         };
-        if self.settled.insert(physical) && word == 0 {
+        let in_memory = self.now.locate(physical).is_some();
+        if in_memory && self.settled.insert(physical) && word == 0 {
             word = choose::instruction(&self.now, numbers);
             self.start.put(physical, word);
             self.now.put(physical, word);

@@ -8,21 +8,25 @@ use super::Sink;
 use crate::asm::two_registers;
 use crate::memory::Width;
 
-const OPCODES: std::ops::RangeInclusive<u32> = 0x30..=0x37;
+pub const OPCODES: std::ops::RangeInclusive<u32> = 0x30..=0x37;
 const IMMEDIATES: [i32; 9] = [0, 1, 0x7FFF, -0x8000, -1, 4, -4, 0x0123, -0x0456];
 
 /// How an address reaches its physical one.
 #[derive(Clone, Copy)]
-enum Way {
+pub enum Way {
     Direct,
     User,
     KernelLow,
     KernelHigh,
 }
 
+impl Way {
+    pub const ALL: [Way; 4] = [Way::Direct, Way::User, Way::KernelLow, Way::KernelHigh];
+}
+
 /// Gives immediates in turn, and base registers that fit them.
 #[derive(Default)]
-struct Bases(usize);
+pub struct Bases(usize);
 
 impl Bases {
     fn next(&mut self, address: u32) -> (i32, u32) {
@@ -37,7 +41,7 @@ pub fn cases(sink: &mut dyn Sink, turn: &mut Turn, numbers: &mut Numbers) {
     for opcode in OPCODES {
         for region in Region::ALL {
             let length = Scene::new().length(region);
-            for way in [Way::Direct, Way::User, Way::KernelLow, Way::KernelHigh] {
+            for way in Way::ALL {
                 for offset in offsets(length, width_of(opcode)) {
                     let physical = region.base().wrapping_add(offset as u32);
                     let scene = reach(turn, numbers, &mut bases, opcode, way, physical);
@@ -68,7 +72,7 @@ fn offsets(length: u32, width: Width) -> Vec<i64> {
 
 /// Access to a physical address, where this way can reach it. The word there
 /// and its neighbours are not 0, so that a wrong byte shows.
-fn reach(
+pub fn reach(
     turn: &mut Turn,
     numbers: &mut Numbers,
     bases: &mut Bases,

@@ -9,7 +9,9 @@ use super::observe::Observer;
 use super::scene::Scene;
 use super::Sink;
 use crate::processor::Processor;
-use crate::record::{write_record, RECORD_LENGTH};
+use crate::record::{
+    write_record, CONTROL_AT, COUNTER_AT, DIVISOR_AT, RECORD_LENGTH, REPLACEMENT_AT,
+};
 
 /// A case begins: the reset machine and memory of zeros are expected.
 pub const CLEAR: u8 = 0;
@@ -27,15 +29,18 @@ pub const STEP: u8 = 7;
 /// End of the file after b cases.
 pub const END: u8 = 8;
 
-/// Offset of the replacement index, the one item that is no word.
-const REPLACEMENT_AT: usize = 413;
+/// Offsets of the parts of the record that are no words.
+const RECORD_BYTES: [usize; 2] = [REPLACEMENT_AT, CONTROL_AT];
 
-/// Offsets of the words of the record (document 01, "What the host lends").
+/// Offsets of the words of the record (document 01, "What the host lends";
+/// document 02, job 1).
 fn record_words() -> impl Iterator<Item = usize> {
     let registers = (0..32).map(|n| 1 + 4 * n);
     let specials = (0..5).map(|n| 135 + 4 * n);
     let tlb = (0..64).map(|n| 156 + 4 * n);
-    registers.chain([130]).chain(specials).chain(tlb)
+    let timer = [DIVISOR_AT, COUNTER_AT];
+    let processor = registers.chain([130]).chain(specials).chain(tlb);
+    processor.chain(timer)
 }
 
 fn word_at(bytes: &[u8], at: usize) -> u32 {
@@ -86,9 +91,10 @@ impl Writer {
                 self.command(RECORD_WORD, at, word_at(&new, at));
             }
         }
-        if old[REPLACEMENT_AT] != new[REPLACEMENT_AT] {
-            let index = u32::from(new[REPLACEMENT_AT]);
-            self.command(RECORD_BYTE, REPLACEMENT_AT, index);
+        for at in RECORD_BYTES {
+            if old[at] != new[at] {
+                self.command(RECORD_BYTE, at, u32::from(new[at]));
+            }
         }
         self.patch_region(RAM_WORD, &from.ram, &to.ram);
         self.patch_region(ROM_WORD, &from.rom, &to.rom);

@@ -1,10 +1,20 @@
 //! A processor with small memories, for the tests.
 #![allow(dead_code)]
 
-use eco32_reference::{Memory, Processor, TlbEntry};
+use eco32_reference::{Memory, Processor, Timer, TlbEntry};
 
 /// PSW with the current mode User Mode and all else 0.
 pub const USER: u32 = 0x0400_0000;
+/// The timer's control register in the direct-mapped space.
+pub const TIMER: u32 = 0xF000_0000;
+
+pub const fn timer(divisor: u32, counter: u32, control: u8) -> Timer {
+    Timer {
+        divisor,
+        counter,
+        control,
+    }
+}
 
 #[derive(Clone)]
 pub struct Rig {
@@ -157,6 +167,7 @@ impl Numbers {
             entry.low = self.next() & 0xFFFF_F003;
         }
         machine.replacement = (4 + self.next() % 28) as u8;
+        machine.timer = timer(self.next(), self.next(), self.next() as u8 & 3);
         machine
     }
 }

@@ -57,11 +57,21 @@ returns-5 c =
     let at-place = at-place-of .before .before in
     let at-translate = at-place .before .before in
     let at-bytes-of = at-translate .before in
-    store-timeout _ _ _ _ _ _ _ _ (at-bytes-of .bytes-of .ensures) (sym (at-translate .translate .ensures) ∙ at-place .place .given .1)
+    store-done _ _ _ _ _ _ _ _ (at-bytes-of .bytes-of .ensures) (sym (at-translate .translate .ensures) ∙ at-place .place .given .1)
     (sym (at-place-of .place-of .ensures) ∙ c .enum-told4 .given .1) refl
+
+returns-6 : tie.Need-returns-6
+unfolding storeTo
+returns-6 c =
+    let at-place-of = c .before .before in
+    let at-place = at-place-of .before .before in
+    let at-translate = at-place .before .before in
+    let at-bytes-of = at-translate .before in
+    store-timeout _ _ _ _ _ _ _ _ (at-bytes-of .bytes-of .ensures) (sym (at-translate .translate .ensures) ∙ at-place .place .given .1)
+    (sym (at-place-of .place-of .ensures) ∙ c .enum-told5 .given .1) refl
 
 pub store-spec : {M : Type 1} → statement M
 store-spec =
     tie.close
     (tie.spec (λ c κs. search needs) (λ c κs. search needs) (λ c. search needs) (λ c κs. search needs) returns (λ c κs. search needs) (λ c. search needs)
-    (λ c. search needs) (λ c. search needs) (λ c. search needs) returns-2 returns-3 returns-4 returns-5)
+    (λ c. search needs) (λ c. search needs) (λ c. search needs) (λ c. search needs) returns-2 returns-3 returns-4 returns-5 returns-6)

@@ -1,7 +1,5 @@
 -- `belt_step::advance` meets its contract, by what `run_loop::step` ensures.
-use mathlib.Core.Path.{ap}
 use Rattle.belt_step.proofs.LineLaws.{line-of-step, line-length}
-use Rattle.step.specs.Step.{Stepped}
 use borrow.Author.Needs.{needs}
 use Rattle.belt_step.proofs.advance.Statement.{statement}
 use Rattle.belt_step.proofs.advance.Tie as tie
@@ -11,9 +9,8 @@ returns c =
     let at-put = c .before .before in
     let at-line = at-put .before .before .before in
     let at-step = at-line .before .before .before .before .before .before in
-    let state = ap (λ (s : Stepped). s .machine) (at-step .step .ensures) in
-    let eid = ap (λ (s : Stepped). s .event .eid) (at-step .step .ensures) in
-    (state, rw (at-put .put .ensures, at-line .line .ensures, line-of-step _ _ state eid, line-length))
+    let e = at-step .step .ensures in
+    (e, rw (at-put .put .ensures, at-line .line .ensures, line-of-step _ _ e, line-length))
 
 pub advance-spec : {M : Type 1} → statement M
 advance-spec =

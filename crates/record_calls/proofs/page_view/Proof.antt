@@ -30,7 +30,7 @@ returns-3 c =
     let at-ram-accepted = at-if1 .before in
     let args = at-ram-accepted .before .before .before .args in
     c .locate .ensures ∙ view-answered _ (now (args .machine)) (args .page) (sym (at-ram-accepted .ram-accepted .ensures) ∙ not-false _ (at-if1 .if1 .left))
-    (at-read .read .ensures .0) (c .before .if2 .left) (at-read .read .ensures .1)
+    (at-read .read .ensures .0) (c .before .if2 .left) (at-read .read .ensures .1 .0)
 
 pub page-view-spec : {M : Type 1} → statement M
 page-view-spec =

@@ -13,8 +13,10 @@ use Rattle.replay.proofs.part.Tie as tie
 
 abbrev Inv-loop : tie.InvT-loop
 Inv-loop progress₀ xrecord₀ xram₀ xrom₀ xbelt₀ ram₀ rom₀ belt₀ opcodes₀ exceptions₀ s i₀ progress xrecord xram xrom xbelt ram rom belt opcodes exceptions i =
-    Going s (replay (expected xrecord₀ xram₀ xrom₀ xbelt₀) (machine (progress₀ .processor) ram₀ rom₀ belt₀) (progress₀ .counts) (tallies opcodes₀ exceptions₀))
-    (replay (expected xrecord xram xrom xbelt) (machine (progress .processor) ram rom belt) (progress .counts) (tallies opcodes exceptions)) i
+    Going s
+    (replay (expected xrecord₀ xram₀ xrom₀ xbelt₀) (machine (progress₀ .processor) (progress₀ .timer) ram₀ rom₀ belt₀) (progress₀ .counts)
+    (tallies opcodes₀ exceptions₀))
+    (replay (expected xrecord xram xrom xbelt) (machine (progress .processor) (progress .timer) ram rom belt) (progress .counts) (tallies opcodes exceptions)) i
 
 abbrev μ-loop : tie.MeasureT-loop
 μ-loop progress₀ xrecord₀ xram₀ xrom₀ xbelt₀ ram₀ rom₀ belt₀ opcodes₀ exceptions₀ s i₀ progress xrecord xram xrom xbelt ram rom belt opcodes exceptions i =

@@ -4,7 +4,7 @@ use native.Mathlib.Omega.{arith}
 use denote.Ref.{now}
 use Rattle.memory.specs.Map.{memory}
 use Rattle.run_loop.specs.Run.{request}
-use Rattle.run_calls.proofs.CallLaws.{answers, refused-call, record-size, steps-within, call-written, run-index}
+use Rattle.run_calls.proofs.CallLaws.{answers, refused-call, record-size, steps-within, call-written, run-index, run-control}
 use borrow.Author.Needs.{needs}
 use Rattle.run_calls.proofs.call.Statement.{statement}
 use Rattle.run_calls.proofs.call.Tie as tie
@@ -13,26 +13,26 @@ returns : tie.Need-returns
 returns c =
     let at-first-of = c .before .before in
     let at-of-steps = at-first-of .before in
-    let at-read = at-of-steps .before in
-    let at-of-lengths = at-read .before .before in
-    let args = at-of-lengths .before .before .before .before .before .args in
-    answers _ _ (c .refused .ensures) ∙ refused-call _ _ (request (args .kind) (args .wanted) (args .lines)) (at-of-lengths .of-lengths .ensures)
-    (at-read .read .ensures .0) (at-of-steps .of-steps .ensures) (at-first-of .first-of .ensures) (c .before .if1 .taken)
+    let at-read-machine = at-of-steps .before in
+    let at-of-lengths = at-read-machine .before .before in
+    let at-args = at-of-lengths .before .before .before .before .before in
+    answers _ _ (c .refused .ensures) ∙ refused-call _ _ (request (at-args .args .kind) (at-args .args .wanted) (at-args .args .lines))
+    (at-of-lengths .of-lengths .ensures) (at-read-machine .read-machine .ensures .0) (at-of-steps .of-steps .ensures) (at-first-of .first-of .ensures)
+    (c .before .if1 .taken)
 
 cast-advance : tie.Need-cast-advance
 cast-advance c =
     let at-if1 = c .before .before in
     let at-first-of = at-if1 .before in
     let at-of-steps = at-first-of .before in
-    let at-read = at-of-steps .before in
-    let at-of-lengths = at-read .before .before in
-    let args = at-of-lengths .before .before .before .before .before .args in
-    omega (
-      arith,
-      steps-within _ (memory (now (args .ram)) (now (args .rom)) (now (args .belt))) (request (args .kind) (args .wanted) (args .lines))
-          (at-of-lengths .of-lengths .ensures) (at-read .read .ensures .0) (at-of-steps .of-steps .ensures) (at-first-of .first-of .ensures)
-          (at-if1 .if1 .left),
-    )
+    let at-read-machine = at-of-steps .before in
+    let at-of-lengths = at-read-machine .before .before in
+    let at-args = at-of-lengths .before .before .before .before .before in
+    let q = request (at-args .args .kind) (at-args .args .wanted) (at-args .args .lines) in
+    let m = memory (now (at-args .args .ram)) (now (at-args .args .rom)) (now (at-args .args .belt)) in
+    let most = steps-within _ m q (at-of-lengths .of-lengths .ensures) (at-read-machine .read-machine .ensures .0) (at-of-steps .of-steps .ensures)
+    (at-first-of .first-of .ensures) (at-if1 .if1 .left) in
+    omega (arith, most)
 
 put-requires : tie.Need-put-requires
 put-requires c κs =
@@ -40,15 +40,20 @@ put-requires c κs =
     let at-if1 = at-advance .before .before .before in
     let at-first-of = at-if1 .before in
     let at-of-steps = at-first-of .before in
-    let at-read = at-of-steps .before in
-    let at-of-lengths = at-read .before .before in
-    let args = at-of-lengths .before .before .before .before .before .args in
-    let q = request (args .kind) (args .wanted) (args .lines) in (
-      record-size _ (memory (now (args .ram)) (now (args .rom)) (now (args .belt))) q (at-of-lengths .of-lengths .ensures) (at-read .read .ensures .0)
-          (at-of-steps .of-steps .ensures) (at-first-of .first-of .ensures) (at-if1 .if1 .left),
-      run-index _
-          (memory (now (args .ram)) (now (args .rom)) (now (args .belt))) q (at-of-lengths .of-lengths .ensures) (at-read .read .ensures .0)
-          (at-of-steps .of-steps .ensures) (at-first-of .first-of .ensures) (at-if1 .if1 .left) (at-read .read .ensures .1) (at-advance .advance .ensures),
+    let at-read-machine = at-of-steps .before in
+    let at-of-lengths = at-read-machine .before .before in
+    let at-args = at-of-lengths .before .before .before .before .before in
+    let q = request (at-args .args .kind) (at-args .args .wanted) (at-args .args .lines) in
+    let m = memory (now (at-args .args .ram)) (now (at-args .args .rom)) (now (at-args .args .belt)) in
+    let read = at-read-machine .read-machine .ensures in
+    let lengths = at-of-lengths .of-lengths .ensures in
+    let steps = at-of-steps .of-steps .ensures in
+    let first = at-first-of .first-of .ensures in
+    let none = at-if1 .if1 .left in
+    let ran = at-advance .advance .ensures in (
+      record-size _ m q lengths (read .0) steps first none,
+      run-index _ m q lengths (read .0) steps first none (read .1 .0) (read .1 .1) ran,
+      run-control _ m q lengths (read .0) steps first none (read .1 .0) (read .1 .1) ran,
     )
 
 returns-2 : tie.Need-returns-2
@@ -58,12 +63,12 @@ returns-2 c =
     let at-if1 = at-advance .before .before .before in
     let at-first-of = at-if1 .before in
     let at-of-steps = at-first-of .before in
-    let at-read = at-of-steps .before in
-    let at-of-lengths = at-read .before .before in
-    let args = at-of-lengths .before .before .before .before .before .args in
-    call-written _ _ (request (args .kind) (args .wanted) (args .lines)) (at-of-lengths .of-lengths .ensures) (at-read .read .ensures .0)
-    (at-of-steps .of-steps .ensures) (at-first-of .first-of .ensures) (at-if1 .if1 .left) (at-read .read .ensures .1) (at-advance .advance .ensures)
-    (at-put .put .ensures)
+    let at-read-machine = at-of-steps .before in
+    let at-of-lengths = at-read-machine .before .before in
+    let at-args = at-of-lengths .before .before .before .before .before in
+    call-written _ _ (request (at-args .args .kind) (at-args .args .wanted) (at-args .args .lines)) (at-of-lengths .of-lengths .ensures)
+    (at-read-machine .read-machine .ensures .0) (at-of-steps .of-steps .ensures) (at-first-of .first-of .ensures) (at-if1 .if1 .left)
+    (at-read-machine .read-machine .ensures .1 .0) (at-read-machine .read-machine .ensures .1 .1) (at-advance .advance .ensures) (at-put .put .ensures)
 
 pub call-spec : {M : Type 1} → statement M
 call-spec =

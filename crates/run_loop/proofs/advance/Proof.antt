@@ -4,6 +4,7 @@ use Prim.Native.Nat.{_-_, _≤_}
 use native.Mathlib.Omega.{arith}
 use borrow.Author.Needs.{needs}
 use Rattle.processor.specs.Register.{jumped}
+use Rattle.timer.specs.Timer.{ticked}
 use Rattle.machine.specs.Machine.{machine}
 use Rattle.step.proofs.Looks.{joined}
 use Rattle.run_loop.proofs.Loop.{plain-goes-on, none-goes-on, run-end, run-start, one-less}
@@ -16,78 +17,98 @@ use Rattle.run_loop.proofs.advance.Statement.{statement}
 use Rattle.run_loop.proofs.advance.Tie as tie
 
 abbrev Inv-loop : tie.InvT-loop
-Inv-loop ram₀ rom belt₀ wanted lines kind state₀ last₀ steps₀ eid₀ ram belt state last steps eid =
-    Going (request kind wanted lines) (machine state₀ ram₀ rom belt₀) (machine state ram rom belt) last steps eid
+Inv-loop ram₀ rom belt₀ wanted lines kind state₀ ticking₀ last₀ steps₀ eid₀ ram belt state ticking last steps eid =
+    Going (request kind wanted lines) (machine state₀ ticking₀ ram₀ rom belt₀) (machine state ticking ram rom belt) last steps eid
 
 abbrev μ-loop : tie.MeasureT-loop
-μ-loop ram₀ rom belt₀ wanted lines kind state₀ last₀ steps₀ eid₀ ram belt state last steps eid =
+μ-loop ram₀ rom belt₀ wanted lines kind state₀ ticking₀ last₀ steps₀ eid₀ ram belt state ticking last steps eid =
     wanted - steps
 
 loop-holds : tie.Need-loop-holds Inv-loop μ-loop
 loop-holds c = record { ram = refl; belt = refl; none = refl; found = c .first .ensures .1; rest = run-start _ 0 _ }
 
 follow-requires : tie.Need-follow-requires Inv-loop μ-loop
-follow-requires c κs = c .before .before .before .loop .inv .found
+follow-requires c κs =
+    let at-loop = c .before .before .before .before in
+    at-loop .loop .inv .found
 
 look-at-requires : tie.Need-look-at-requires Inv-loop μ-loop
 look-at-requires c κs =
-    let at-follow = c .before .before .before .before .before .before in
+    let at-follow = c .before .before .before .before .before .before .before in
     followed-serves _ _ _ _ _ (at-follow .follow .ensures .0) (at-follow .follow .ensures .1)
+
+add-steps : tie.Need-add-steps Inv-loop μ-loop
+add-steps c =
+    let at-loop-test = c .before .before .before .before .before .before .before .before .before .before .before .before in
+    let at-fits = at-loop-test .before .before .before .before .before .before .before .before in
+    omega (arith, at-loop-test .loop-test .taken, at-fits .fits)
 
 loop-less : tie.Need-loop-less Inv-loop μ-loop
 loop-less c =
-    let at-loop-test = c .before .before .before .before .before .before .before .before .before .before .before .before .before .before .before in
+    let far-loop-test = c .before .before .before .before .before .before .before .before in
+    let at-loop-test = far-loop-test .before .before .before .before .before .before .before .before .before in
     one-less _ _ (at-loop-test .loop-test .taken)
 
 loop-again : tie.Need-loop-again Inv-loop μ-loop
 loop-again c =
     let at-action = c .before .before .before in
     let at-look-at = at-action .before .before in
-    let at-follow = at-look-at .before .before .before .before .before .before .before in
-    let at-loop-test = at-follow .before .before .before in
+    let at-lines = at-look-at .before in
+    let at-follow = at-lines .before .before .before .before .before .before .before in
+    let at-tick = at-follow .before .before .before in
+    let at-loop-test = at-tick .before in
     let at-loop = at-loop-test .before in
-    again (at-loop .loop .inv) (at-loop-test .loop-test .taken) (at-look-at .look-at .ensures) (ap actionOf (at-action .action .given .1))
-    (joined (c .jump .ensures ∙ zero-written _ _ _ _ (c .before .if1 .taken)) refl) (none-goes-on _) refl refl
-    (jump-found _ _ _ (at-follow .follow .ensures .1) _ _ (c .jump .ensures))
+    again (at-loop .loop .inv) (at-loop-test .loop-test .taken) (at-lines .lines .ensures) (at-look-at .look-at .ensures)
+    (ap actionOf (at-action .action .given .1)) (joined (c .jump .ensures ∙ zero-written _ _ _ _ (c .before .if1 .taken)) (at-tick .tick .ensures) refl)
+    (none-goes-on _) refl refl (jump-found _ _ _ (at-follow .follow .ensures .1) _ _ (c .jump .ensures))
 
 loop-less-2 : tie.Need-loop-less-2 Inv-loop μ-loop
 loop-less-2 c =
-    let at-loop-test = c .before .before .before .before .before .before .before .before .before .before .before .before .before .before .before in
+    let far-loop-test = c .before .before .before .before .before .before .before .before in
+    let at-loop-test = far-loop-test .before .before .before .before .before .before .before .before .before in
     one-less _ _ (at-loop-test .loop-test .taken)
 
 loop-again-2 : tie.Need-loop-again-2 Inv-loop μ-loop
 loop-again-2 c =
     let at-action = c .before .before .before in
     let at-look-at = at-action .before .before in
-    let at-follow = at-look-at .before .before .before .before .before .before .before in
-    let at-loop-test = at-follow .before .before .before in
+    let at-lines = at-look-at .before in
+    let at-follow = at-lines .before .before .before .before .before .before .before in
+    let at-tick = at-follow .before .before .before in
+    let at-loop-test = at-tick .before in
     let at-loop = at-loop-test .before in
-    again (at-loop .loop .inv) (at-loop-test .loop-test .taken) (at-look-at .look-at .ensures) (ap actionOf (at-action .action .given .1))
-    (joined (taken _ _ _ _ _ _ (c .before .if1 .left) (c .write .ensures .0) (c .write .ensures .1)) refl) (none-goes-on _) refl refl
+    again (at-loop .loop .inv) (at-loop-test .loop-test .taken) (at-lines .lines .ensures) (at-look-at .look-at .ensures)
+    (ap actionOf (at-action .action .given .1))
+    (joined (taken _ _ _ _ _ _ (c .before .if1 .left) (c .write .ensures .0) (c .write .ensures .1)) (at-tick .tick .ensures) refl) (none-goes-on _) refl refl
     (at-follow .follow .ensures .1)
 
 loop-less-3 : tie.Need-loop-less-3 Inv-loop μ-loop
 loop-less-3 c =
-    let at-store = c .before .before .before .before .before .before in
-    let at-follow = at-store .before .before .before .before .before .before .before .before .before .before .before .before .before in
-    let at-loop-test = at-follow .before .before .before in
+    let far-loop-test = c .before .before .before .before .before .before .before .before .before .before .before .before .before in
+    let at-loop-test = far-loop-test .before .before .before .before .before .before .before .before .before .before .before .before .before in
     one-less _ _ (at-loop-test .loop-test .taken)
 
 loop-again-3 : tie.Need-loop-again-3 Inv-loop μ-loop
 loop-again-3 c =
-    let at-store = c .before .before .before .before .before .before in
+    let at-tick2 = c .before .before in
+    let at-store = at-tick2 .before .before .before .before .before .before in
     let at-action2 = at-store .before .before .before .before in
     let at-look-at = at-action2 .before .before in
-    let at-follow = at-look-at .before .before .before .before .before .before .before in
-    let at-loop-test = at-follow .before .before .before in
+    let at-lines = at-look-at .before in
+    let at-follow = at-lines .before .before .before .before .before .before .before in
+    let at-loop-test = at-follow .before .before .before .before in
     let at-loop = at-loop-test .before in
-    again (at-loop .loop .inv) (at-loop-test .loop-test .taken) (at-look-at .look-at .ensures) (ap actionOf (at-action2 .action2 .given .1))
-    (joined (c .jump2 .ensures ∙ ap (jumped _) (c .before .add .ensures)) (at-store .store .ensures .1)) (none-goes-on _) (at-store .store .kept .0)
-    (at-store .store .kept .1 .1 .0) (jump-found _ _ _ (at-follow .follow .ensures .1) _ _ (c .jump2 .ensures))
+    again (at-loop .loop .inv) (at-loop-test .loop-test .taken) (at-lines .lines .ensures) (at-look-at .look-at .ensures)
+    (ap actionOf (at-action2 .action2 .given .1))
+    (joined (c .jump2 .ensures ∙ ap (jumped _) (c .before .add .ensures)) (at-tick2 .tick2 .ensures ∙ ap ticked (at-store .store .ensures .1 .0))
+    (at-store .store .ensures .1 .1))
+    (none-goes-on _) (at-store .store .kept .1 .0) (at-store .store .kept .1 .1 .1 .0)
+    (jump-found _ _ _ (at-follow .follow .ensures .1) _ _ (c .jump2 .ensures))
 
 loop-less-4 : tie.Need-loop-less-4 Inv-loop μ-loop
 loop-less-4 c =
-    let at-loop-test = c .before .before .before .before .before .before .before .before .before .before .before .before .before .before .before in
+    let far-loop-test = c .before .before .before .before .before .before .before .before in
+    let at-loop-test = far-loop-test .before .before .before .before .before .before .before .before .before in
     one-less _ _ (at-loop-test .loop-test .taken)
 
 loop-again-4 : tie.Need-loop-again-4 Inv-loop μ-loop
@@ -95,27 +116,32 @@ loop-again-4 c =
     let at-done = c .before .before .before in
     let at-match = at-done .before in
     let at-look-at = at-match .before in
-    let at-loop-test = at-look-at .before .before .before .before .before .before .before .before .before .before in
+    let at-lines = at-look-at .before in
+    let at-tick = at-lines .before .before .before .before .before .before .before .before .before .before in
+    let at-loop-test = at-tick .before in
     let at-loop = at-loop-test .before in
-    let (i, told) = is-system (at-look-at .look-at .result) (at-match .match .keys3) in
-    again (at-loop .loop .inv) (at-loop-test .loop-test .taken) (at-look-at .look-at .ensures) told
-    (joined (at-done .done .ensures ∙ ap (processorAfter _) told) refl) (none-goes-on _) refl refl (c .first2 .ensures .1)
+    let (i, told) = is-system (at-look-at .look-at .result) (at-match .match .keys3) in again (at-loop .loop .inv) (at-loop-test .loop-test .taken)
+    (at-lines .lines .ensures) (at-look-at .look-at .ensures) told
+    (joined (at-done .done .ensures ∙ ap (processorAfter _) told) (at-tick .tick .ensures) refl) (none-goes-on _) refl refl (c .first2 .ensures .1)
 
 loop-less-5 : tie.Need-loop-less-5 Inv-loop μ-loop
 loop-less-5 c =
-    let at-loop-test = c .before .before .before .before .before .before .before .before .before .before .before .before .before .before .before in
+    let far-loop-test = c .before .before .before .before .before .before .before .before in
+    let at-loop-test = far-loop-test .before .before .before .before .before .before .before .before .before in
     one-less _ _ (at-loop-test .loop-test .taken)
 
 loop-again-5 : tie.Need-loop-again-5 Inv-loop μ-loop
 loop-again-5 c =
     let at-action3 = c .before .before .before in
     let at-look-at = at-action3 .before .before in
-    let at-follow = at-look-at .before .before .before .before .before .before .before in
-    let at-loop-test = at-follow .before .before .before in
+    let at-lines = at-look-at .before in
+    let at-follow = at-lines .before .before .before .before .before .before .before in
+    let at-tick = at-follow .before .before .before in
+    let at-loop-test = at-tick .before in
     let at-loop = at-loop-test .before in
-    again (at-loop .loop .inv) (at-loop-test .loop-test .taken) (at-look-at .look-at .ensures) (ap actionOf (at-action3 .action3 .given .1))
-    (joined (c .before .enter .ensures) refl) (plain-goes-on _ _ (c .if2 .left)) refl refl
-    (enter-found _ _ _ (at-follow .follow .ensures .1) _ _ _ (c .before .enter .ensures))
+    again (at-loop .loop .inv) (at-loop-test .loop-test .taken) (at-lines .lines .ensures) (at-look-at .look-at .ensures)
+    (ap actionOf (at-action3 .action3 .given .1)) (joined (c .before .enter .ensures) (at-tick .tick .ensures) refl) (plain-goes-on _ _ (c .if2 .left)) refl
+    refl (enter-found _ _ _ (at-follow .follow .ensures .1) _ _ _ (c .before .enter .ensures))
 
 same-length : tie.Need-same-length Inv-loop μ-loop
 same-length c = c .before .loop .inv .ram
@@ -128,27 +154,32 @@ returns c = sym (c .before .loop .inv .rest ∙ run-end _ _ _ _ (c .before .loop
 
 same-length-3 : tie.Need-same-length-3 Inv-loop μ-loop
 same-length-3 c =
-    let at-loop = c .before .before .before .before .before .before .before .before .before .before .before .before .before .before .before .before in
+    let far-loop = c .before .before .before .before .before .before .before .before .before in
+    let at-loop = far-loop .before .before .before .before .before .before .before .before .before in
     at-loop .loop .inv .ram
 
 same-length-4 : tie.Need-same-length-4 Inv-loop μ-loop
 same-length-4 c =
-    let at-loop = c .before .before .before .before .before .before .before .before .before .before .before .before .before .before .before .before in
+    let far-loop = c .before .before .before .before .before .before .before .before .before in
+    let at-loop = far-loop .before .before .before .before .before .before .before .before .before in
     at-loop .loop .inv .belt
 
 returns-2 : tie.Need-returns-2 Inv-loop μ-loop
 returns-2 c =
     let at-action3 = c .before .before .before in
     let at-look-at = at-action3 .before .before in
-    let at-loop-test = at-look-at .before .before .before .before .before .before .before .before .before .before in
+    let at-lines = at-look-at .before in
+    let at-tick = at-lines .before .before .before .before .before .before .before .before .before .before in
+    let at-loop-test = at-tick .before in
     let at-loop = at-loop-test .before in
-    stops (at-loop .loop .inv) (at-loop-test .loop-test .taken) (at-look-at .look-at .ensures) (ap actionOf (at-action3 .action3 .given .1))
-    (joined (c .before .enter .ensures) refl) _ _ refl (c .if2 .taken)
+    stops (at-loop .loop .inv) (at-loop-test .loop-test .taken) (at-lines .lines .ensures) (at-look-at .look-at .ensures)
+    (ap actionOf (at-action3 .action3 .given .1)) (joined (c .before .enter .ensures) (at-tick .tick .ensures) refl) _ _ refl (c .if2 .taken)
 
 pub advance-spec : {M : Type 1} → statement M
 advance-spec =
     tie.close
-    (tie.spec Inv-loop μ-loop (λ c κs. search needs) loop-holds follow-requires look-at-requires (λ c. omega arith) (λ c. search needs) (λ c. search needs)
-    (λ c κs. search needs) loop-less loop-again (λ c κs. search needs) (λ c. search needs) (λ c. search needs) loop-less-2 loop-again-2 (λ c. search needs)
-    (λ c κs. search needs) (λ c κs. search needs) (λ c κs. search needs) loop-less-3 loop-again-3 (λ c κs. search needs) (λ c κs. search needs) loop-less-4
-    loop-again-4 (λ c. search needs) (λ c κs. search needs) loop-less-5 loop-again-5 same-length same-length-2 returns same-length-3 same-length-4 returns-2)
+    (tie.spec Inv-loop μ-loop (λ c κs. search needs) loop-holds (λ c κs. search needs) follow-requires (λ c κs. search needs) look-at-requires add-steps
+    (λ c. search needs) (λ c. search needs) (λ c κs. search needs) loop-less loop-again (λ c κs. search needs) (λ c. search needs) (λ c. search needs)
+    loop-less-2 loop-again-2 (λ c. search needs) (λ c κs. search needs) (λ c κs. search needs) (λ c κs. search needs) (λ c κs. search needs) loop-less-3
+    loop-again-3 (λ c κs. search needs) (λ c κs. search needs) loop-less-4 loop-again-4 (λ c. search needs) (λ c κs. search needs) loop-less-5 loop-again-5
+    same-length same-length-2 returns same-length-3 same-length-4 returns-2)

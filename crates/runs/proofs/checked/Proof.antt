@@ -22,7 +22,8 @@ cast-advance c =
     let args = at-of-run .before .before .before .before .args in
     omega (
       arith,
-      steps-within (request (args .kind) (args .wanted) (args .lines)) (machine (args .p) (now (args .ram)) (now (args .rom)) (now (args .belt)))
+      steps-within (request (args .kind) (args .wanted) (args .lines))
+          (machine (args .p) (args .timer) (now (args .ram)) (now (args .rom)) (now (args .belt)))
           (at-of-run .of-run .ensures) (at-if1 .if1 .left),
     )
 

@@ -9,7 +9,7 @@ use Rattle.vectors.proofs.replay_file.Tie as tie
 
 abbrev Inv-loop : tie.InvT-loop
 Inv-loop fd xrecord₀ xram₀ xrom₀ xbelt₀ ram₀ rom₀ belt₀ opcodes₀ exceptions₀ going₀ left₀ xrecord xram xrom xbelt ram rom belt opcodes exceptions going left =
-    (length xrecord ≡ 414) × (length xram ≡ 8192) × (length xrom ≡ 4096) × (length xbelt ≡ 1024) × (length ram ≡ 8192) × (length rom ≡ 4096)
+    (length xrecord ≡ 424) × (length xram ≡ 8192) × (length xrom ≡ 4096) × (length xbelt ≡ 1024) × (length ram ≡ 8192) × (length rom ≡ 4096)
     × (length belt ≡ 1024) × (length opcodes ≡ 64) × (length exceptions ≡ 32)
 
 abbrev μ-loop : tie.MeasureT-loop
@@ -41,7 +41,7 @@ returns c = none-means-ended _ _ (c .before .before .before .finish .ensures)
 pub replay-file-spec : {M : Type 1} → statement M
 replay-file-spec =
     tie.close
-    (tie.spec Inv-loop μ-loop (λ c κs. search needs) (λ c κs. search needs) loop-holds (λ c κs. search needs) (λ c. search needs) (λ c κs. search needs)
-    (λ c. search needs) (λ c. search needs) (λ c. search needs) (λ c. search needs) (λ c. search needs) (λ c. search needs) (λ c. search needs)
-    (λ c. search needs) (λ c. search needs) (λ c. search needs) (λ c. search needs) (λ c κs. search needs) (λ c κs. search needs) loop-less loop-again
-    (λ c κs. search needs) (λ c. search needs) (λ c. search needs) (λ c κs. search needs) returns)
+    (tie.spec Inv-loop μ-loop (λ c κs. search needs) (λ c κs. search needs) (λ c κs. search needs) loop-holds (λ c κs. search needs) (λ c. search needs)
+    (λ c κs. search needs) (λ c. search needs) (λ c. search needs) (λ c. search needs) (λ c. search needs) (λ c. search needs) (λ c. search needs)
+    (λ c. search needs) (λ c. search needs) (λ c. search needs) (λ c. search needs) (λ c. search needs) (λ c κs. search needs) (λ c κs. search needs) loop-less
+    loop-again (λ c κs. search needs) (λ c. search needs) (λ c. search needs) (λ c κs. search needs) returns)

@@ -9,4 +9,4 @@ pub record-with-spec : {M : Type 1} → statement M
 record-with-spec =
     tie.close
     (tie.spec (λ c. search needs) (λ c. search needs) (λ c κs. search needs) (λ c. search needs) (λ c. search needs)
-    (λ c. simp (length-set, length-append) (omega (arith, c .before .write .kept .1 .0))))
+    (λ c. simp (length-set, length-append) (omega (arith, c .before .write .kept .1 .1 .0))))

@@ -8,18 +8,21 @@ use Rattle.replay.proofs.model.step.Tie as tie
 
 same-length : tie.Need-same-length
 same-length c =
-    c .before .before .before .before .before .before .before .before .before .before .before .before .before .before .before .before .before .step .kept .1 .0
+    let at-count-step = c .before .before .before .before .before .before .before .before .before in
+    let at-step = at-count-step .before .before .before .before .before .before .before .before .before in
+    at-step .step .kept .1 .1 .0
 
 same-length-2 : tie.Need-same-length-2
 same-length-2 c =
-    c .before .before .before .before .before .before .before .before .before .before .before .before .before .before .before .before .before .step .kept .1
-    .1 .1 .0
+    let at-count-step = c .before .before .before .before .before .before .before .before .before in
+    let at-step = at-count-step .before .before .before .before .before .before .before .before .before in
+    at-step .step .kept .1 .1 .1 .1 .0
 
 returns : tie.Need-returns
 returns c =
     let at-agree = c .before .before in
     let at-count-step = at-agree .before .before .before .before .before .before .before in
-    let at-step = at-count-step .before .before .before .before .before .before .before .before in
+    let at-step = at-count-step .before .before .before .before .before .before .before .before .before in
     let at-opcode-at = at-step .before .before .before in
     let state = ap (λ (s : Stepped). s .machine) (at-step .step .ensures) in
     let eid = ap (λ (s : Stepped). s .event .eid) (at-step .step .ensures) in (

@@ -1,0 +1,3 @@
+-- The laws of `timer`.
+pub mod Registers
+pub mod Ticking

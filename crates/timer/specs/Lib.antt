@@ -1,0 +1,2 @@
+-- The definitions of `timer`.
+pub mod Timer
