@@ -20,7 +20,7 @@ use Rattle.processor.specs.declared.Processor.{Processor}
 use Rattle.processor.specs.State.{fit}
 use Rattle.processor.proofs.FitLaws.{Fit, fit-means, means-fit}
 use Rattle.instructions.specs.Action.{Action, Write, Store, System, Exception}
-use Rattle.memory.specs.Access.{storeWidth}
+use Rattle.memory.specs.Access.{accessWidth}
 use Rattle.machine.specs.Machine.{Machine, Bytes, Representable, fitWith}
 use Rattle.machine.proofs.Representing.{representable}
 use Rattle.step.specs.Step.{look, memoryDone, stepOf}
@@ -42,7 +42,7 @@ use Rattle.acceptance.proofs.Causes.{run, run-answers, call-answers, ex
 
 done-lengths : (m : Memory) (a : Action) → SameLengths (memoryDone m a) m
 done-lengths m (Write n v next) = (refl, refl, refl)
-done-lengths m (Store width physical v) = store-lengths (storeWidth width) m physical v
+done-lengths m (Store width physical v) = store-lengths (accessWidth width) m physical v
 done-lengths m (System i) = (refl, refl, refl)
 done-lengths m (Exception eid address) = (refl, refl, refl)
 

@@ -47,7 +47,7 @@ pub fn read_byte<'a>(
     let Translation::Physical(physical) = place else {
         return Read::Fault(translation::eid_of(place));
     };
-    brought(load_store::load_byte(timer, ram, rom, belt, physical))
+    brought(load_store::load(timer, ram, rom, belt, 1, physical))
 }
 
 pub fn read_half<'a>(
@@ -66,7 +66,7 @@ pub fn read_half<'a>(
     let Translation::Physical(physical) = place else {
         return Read::Fault(translation::eid_of(place));
     };
-    brought(load_store::load_half(timer, ram, rom, belt, physical))
+    brought(load_store::load(timer, ram, rom, belt, 2, physical))
 }
 
 pub fn read_word<'a>(
@@ -85,7 +85,7 @@ pub fn read_word<'a>(
     let Translation::Physical(physical) = place else {
         return Read::Fault(translation::eid_of(place));
     };
-    brought(load_store::load_word(timer, ram, rom, belt, physical))
+    brought(load_store::load(timer, ram, rom, belt, 4, physical))
 }
 
 // The instruction word at the PC, whose page has the index `i`.
@@ -107,7 +107,7 @@ pub fn fetch<'a>(
     let Translation::Physical(physical) = place else {
         return Read::Fault(translation::eid_of(place));
     };
-    brought(load_store::load_word(timer, ram, rom, belt, physical))
+    brought(load_store::load(timer, ram, rom, belt, 4, physical))
 }
 
 fn bytes_of(width: Width) -> u32

@@ -9,7 +9,7 @@ use Rattle.words.specs.Numbers.{signExtend, zeroExtend}
 use Rattle.words.proofs.Cases.{chosen, case}
 use Rattle.words.proofs.Every.{_&_, every-so}
 use Rattle.sums.proofs.Sizes.{sum-lt, zero-16-lt, zero-8-lt, sign-16-lt, sign-8-lt}
-use Rattle.memory.specs.Access.{storeAnswer, storeWidth}
+use Rattle.memory.specs.Access.{storeAnswer, accessWidth}
 use Rattle.memory.specs.declared.Stored.{Stored}
 use Rattle.memory.specs.declared.Stored.the-variants as stored
 use Rattle.status.specs.Psw.{userMode}
@@ -39,7 +39,7 @@ use Rattle.decode.proofs.Small.{SmallSystem, Small, FitsRead, Holds, re
 pub record Granted (s : Surroundings) (width physical : ℕ) : Type 0 where
   pub blocks : ℕ
   pub divides : blocks * width ≡ 4096
-  pub own : storeWidth width ≡ width
+  pub own : accessWidth width ≡ width
   pub address : ℕ
   pub granted : translated (s .psw) (s .highs) (s .lows) width true address ≡ Physical physical
 
@@ -110,7 +110,7 @@ module _ (s : Surroundings) (o : Operands) where
   settled-stores width physical value address stored.Done g = g
   settled-stores width physical value address stored.Timeout g = tt
 
-  module _ (width blocks : ℕ) (d : blocks * width ≡ 4096) (own : storeWidth width ≡ width) where
+  module _ (width blocks : ℕ) (d : blocks * width ≡ 4096) (own : accessWidth width ≡ width) where
     through-stores : (value address : ℕ) (t : Translation) → translated (s .psw) (s .highs) (s .lows) width true address ≡ t
         → Stores (storeThrough width (s .memory) value address t)
     through-stores value address t e =
@@ -133,13 +133,13 @@ loads width extend e s o =
     landed-comes s o width extend e (readFrom width s (addressOf o))
     (read-named width (s .timer) (s .memory) (translated (s .psw) (s .highs) (s .lows) width false (addressOf o))) (read-fits width s (addressOf o))
 
-stores : (width blocks : ℕ) → blocks * width ≡ 4096 → storeWidth width ≡ width → Always ComesTo (store width)
+stores : (width blocks : ℕ) → blocks * width ≡ 4096 → accessWidth width ≡ width → Always ComesTo (store width)
 stores width blocks d own s o =
     as-store s o (storeTo width s (o .y) (addressOf o)) (stores-stores s o width blocks d own (o .y) (addressOf o)) (stores-named width s (o .y) (addressOf o))
     (stores-small width s (o .y) (addressOf o) (sum-lt _ _))
 
 transfers-come : Every (Always ComesTo) transfers
-unfolding transfers storeWidth
+unfolding transfers accessWidth
 transfers-come =
     loads 4 (λ v. v) (λ v h. h) & loads 2 (signExtend 16) (λ v h. sign-16-lt v) & loads 2 (zeroExtend 16) (λ v h. zero-16-lt v)
     & loads 1 (signExtend 8) (λ v h. sign-8-lt v) & loads 1 (zeroExtend 8) (λ v h. zero-8-lt v)

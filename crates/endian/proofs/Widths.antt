@@ -3,7 +3,7 @@ use mathlib.Core.Path.{_≡_, refl, ap, sym, _∙_}
 use mathlib.Core.List.{List}
 use mathlib.Core.Bool.{Bool, true, false}
 use Prim.Native.Nat.{ℕ, zero, suc, _+_, _*_, _-_, _/_, _%_, _^_, _≤_, _<_}
-use native.Mathlib.Nat.{mod-eq-of-lt, add-zero, add-suc, add-assoc, mul-assoc, mul-one, div-add-mod', mod-lt, mul-add-mod-self-right, pow-suc, pow-zero}
+use native.Mathlib.Nat.{mod-eq-of-lt, add-zero, mul-assoc, mul-one, div-add-mod', mod-lt, mul-add-mod-self-right, pow-suc, pow-zero}
 use native.Mathlib.Omega.{arith}
 use lib.ListN.{length, getD, set, length-set}
 use lib.Seq.{getD-set-same, getD-set-other, set-getD, set-out}
@@ -96,23 +96,6 @@ unfolding writeAt
 write-bytes zero s at v h j = h j
 write-bytes (suc w) s at v h j =
     write-bytes w (set s (at + w) (v % 256)) at (v / 256) (set-bytes s (at + w) (v % 256) (omega arith) h) j
-
--- two numbers side by side are one of the joint width
-pub read-joined : (v w : ℕ) (s : List ℕ) (at : ℕ) → readAt (v + w) s at ≡ readAt v s at * 256 ^ w + readAt w s (at + v)
-unfolding readAt
-read-joined v zero s at = rw (add-zero v) (omega arith)
-read-joined v (suc w) s at =
-    let low : readAt (v + w) s at ≡ readAt v s at * 256 ^ w + readAt w s (at + v) = read-joined v w s at in
-    let regroup : readAt v s at * 256 ^ w * 256 ≡ readAt v s at * (256 ^ w * 256) = mul-assoc (readAt v s at) (256 ^ w) 256 in
-    rw (add-suc v w, pow-suc 256 w, add-assoc at v w) (omega arith)
-
--- a half-word that was read fits its width, in a list of bytes
-pub half-lt : (s : List ℕ) (at r : ℕ) → r ≡ readAt 2 s at → ((j : ℕ) → getD s j 0 < 256) → r < 65536
-half-lt s at r e h = rw e (read-lt 2 s at h)
-
--- a word is two half-words
-pub word-halves : (s : List ℕ) (at : ℕ) → readAt 4 s at ≡ readAt 2 s at * 65536 + readAt 2 s (at + 2)
-word-halves s at = read-joined 2 2 s at
 
 -- the three widths of the processor
 pub byte-fits : (b : ℕ) → b < 256 → b < 4294967296

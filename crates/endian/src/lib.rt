@@ -39,16 +39,6 @@ pub fn read_word(s: &[u8], at: usize) -> u32
         + byte_at(s, at + 3)
 }
 
-// The same number. Where words of two slices meet, each read in its own way stays one load in the compiled code.
-pub fn read_word_by_halves(s: &[u8], at: usize) -> u32
-    requires { ⌜ at + 4 ≤ length (now s) ⌝ }
-    ensures { λ r. ⌜ r ≡ readAt 4 (now (s .entry)) at ⌝ }
-{
-    let high = read_half(s, at);
-    let low = read_half(s, at + 2);
-    high * 0x1_0000 + low
-}
-
 pub fn write_byte(s: &mut [u8], at: usize, v: u32)
     requires { ⌜ at + 1 ≤ length (now s) ⌝ }
     ensures { λ r. ⌜ now (s .exit) ≡ writeAt 1 (now (s .entry)) at v ⌝ }

@@ -11,7 +11,7 @@ use Rattle.status.specs.Psw.{userMode}
 use Rattle.processor.specs.declared.Processor.{Processor}
 use Rattle.instructions.specs.Action.{Action, Write, Store, System, Exception}
 use Rattle.machine.specs.Machine.{Machine, Representable}
-use Rattle.memory.specs.Access.{storeWidth}
+use Rattle.memory.specs.Access.{accessWidth}
 use Rattle.step.specs.Step.{look, memoryDone, Stepped, stepOf}
 use Rattle.refusals.specs.Refusal.{runTests, runRefusal}
 use Rattle.refusals.proofs.FirstFailed.{all-pass}
@@ -27,7 +27,7 @@ use Rattle.isolation.proofs.UserStep.{step-held, step-alike, eid-alike}
 done-apart : (m : Memory) (a : Action) → Apart m → Apart (memoryDone m a)
 done-apart m (Write n v next) h = h
 done-apart m (Store width physical v) h =
-    let l = store-lengths (storeWidth width) m physical v in
+    let l = store-lengths (accessWidth width) m physical v in
     (omega (arith, l .0, h .0), omega (arith, l .1, h .1))
 done-apart m (System i) h = h
 done-apart m (Exception eid address) h = h

@@ -9,7 +9,7 @@ use lib.ListN.{getD}
 use Rattle.timer.specs.Timer.{ticked, linesWith}
 use Rattle.timer.specs.declared.Timer.{Timer}
 use Rattle.memory.specs.Map.{Memory, timerBase}
-use Rattle.memory.specs.Access.{storeWidth, memoryAfter, timerAfter}
+use Rattle.memory.specs.Access.{accessWidth, memoryAfter, timerAfter}
 use Rattle.memory.proofs.OwnBytes.{Apart}
 use Rattle.memory.proofs.StoreLaws.{store-lengths, store-rom, store-keeps, store-keeps-timer, timer-after-same}
 use Rattle.status.specs.Psw.{pushed}
@@ -92,7 +92,7 @@ module _ (p q : Processor) (high : p .tlbhigh ≡ q .tlbhigh) (low : p .tlblow �
 module _ (start m : Machine) (held : Held start m) (user : inUserMode m ≡ true) (lines : ℕ) where
   -- a granted store keeps every frame that is not reached writable
   stored : (width physical v : ℕ) → Granted (surroundingsOf m) width physical
-      → SameIn (λ frame. ReachedWritable (start .processor) frame → ⊥) (memoryAfter (storeWidth width) (m .memory) physical v) (start .memory)
+      → SameIn (λ frame. ReachedWritable (start .processor) frame → ⊥) (memoryAfter (accessWidth width) (m .memory) physical v) (start .memory)
   stored width physical v g =
       let l = store-lengths width (m .memory) physical v in
       let granted = user-granted (m .processor .psw) (m .processor .tlbhigh) (m .processor .tlblow) width true (g .address) physical user (g .granted) in
@@ -125,7 +125,7 @@ module _ (start m : Machine) (held : Held start m) (user : inUserMode m ≡ true
         tlbhigh = held .tlbhigh;
         tlblow = held .tlblow;
         replacement = held .replacement;
-        rom = store-rom (storeWidth width) (m .memory) physical v ∙ held .rom;
+        rom = store-rom (accessWidth width) (m .memory) physical v ∙ held .rom;
         frames = stored width physical v u;
         staying = λ _. held .staying user;
       }
@@ -150,7 +150,7 @@ module _ (start m : Machine) (held : Held start m) (user : inUserMode m ≡ true
   timer-kept closed (Store width physical v) g =
       let granted = user-granted (m .processor .psw) (m .processor .tlbhigh) (m .processor .tlblow) width true (g .address) physical user (g .granted) in
       let reached = access-writable (m .processor) width (g .blocks) true (g .address) physical (g .divides) granted refl in
-      store-keeps-timer (storeWidth width) (m .memory) physical v (m .timer)
+      store-keeps-timer (accessWidth width) (m .memory) physical v (m .timer)
       (λ at low e. closed (writable-by-tlb (m .processor) (start .processor) (held .tlbhigh) (held .tlblow) (frameAt timerBase)
       (subst (ReachedWritable (m .processor)) (omega arith) reached)))
   timer-kept closed (System i) u = absurd u
@@ -188,14 +188,14 @@ module _ (start m : Machine) (held : Held start m) (user : inUserMode m ≡ true
 
 memory-alike : (F : ℕ → Type 0) (m n : Memory) → SameIn F m n → (a : Action) → SameIn F (memoryDone m a) (memoryDone n a)
 memory-alike F m n same (Write r v next) = same
-memory-alike F m n same (Store width physical v) = store-same (storeWidth width) physical v F m n same
+memory-alike F m n same (Store width physical v) = store-same (accessWidth width) physical v F m n same
 memory-alike F m n same (System i) = same
 memory-alike F m n same (Exception eid address) = same
 
 -- the sizes alone say where a store goes
 timer-alike : (t : Timer) (F : ℕ → Type 0) (m n : Memory) → SameIn F m n → (a : Action) → timerDone t m a ≡ timerDone t n a
 timer-alike t F m n same (Write r v next) = refl
-timer-alike t F m n same (Store width physical v) = timer-after-same m n (same .ram, same .rom, same .belt) (storeWidth width) t physical v
+timer-alike t F m n same (Store width physical v) = timer-after-same m n (same .ram, same .rom, same .belt) (accessWidth width) t physical v
 timer-alike t F m n same (System i) = refl
 timer-alike t F m n same (Exception eid address) = refl
 

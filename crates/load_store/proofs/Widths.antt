@@ -1,21 +1,21 @@
--- The width of a store, by the tests of the code.
+-- The width of an access, by the tests of the code.
 use mathlib.Core.Path.{_≡_, ap, sym, subst, _∙_}
 use Prim.Native.Nat.{ℕ, _+_, _≤_}
 use borrow.Author.Tests.{ne-eqb}
 use Rattle.memory.specs.Map.{placeOf}
-use Rattle.memory.specs.Access.{storeWidth}
+use Rattle.memory.specs.Access.{accessWidth}
 use Rattle.memory.specs.declared.Place.{Place}
 
-pub width-one : (w : ℕ) → w ≡ 1 → storeWidth w ≡ 1
-unfolding storeWidth
+pub width-one : (w : ℕ) → w ≡ 1 → accessWidth w ≡ 1
+unfolding accessWidth
 width-one w e = rw e
 
-pub width-two : (w : ℕ) → w ≡ 2 → storeWidth w ≡ 2
-unfolding storeWidth
+pub width-two : (w : ℕ) → w ≡ 2 → accessWidth w ≡ 2
+unfolding accessWidth
 width-two w e = rw e
 
-pub width-four : (w : ℕ) → (w ≡ 1 → ⊥) → (w ≡ 2 → ⊥) → storeWidth w ≡ 4
-unfolding storeWidth
+pub width-four : (w : ℕ) → (w ≡ 1 → ⊥) → (w ≡ 2 → ⊥) → accessWidth w ≡ 4
+unfolding accessWidth
 width-four w e f = simp (ne-eqb w 1 e, ne-eqb w 2 f)
 
 pub inside : (at length : ℕ) {v w : ℕ} → v ≡ w → at + v ≤ length → at + w ≤ length

@@ -1,4 +1,4 @@
-// The loads of one, two and four bytes at a physical address, and the store over the width. The timer answers words.
+// The load and the store at a physical address, over the width. The timer answers words.
 use memory::Loaded;
 use memory::Place;
 use memory::Stored;
@@ -7,50 +7,11 @@ ghost use mathlib.Core.Path.{_≡_};
 ghost use Rattle.memory.specs.Lent.{lent, left};
 ghost use Prim.Native.Nat.{_+_, _≤_};
 ghost use lib.ListN.{length};
-ghost use Rattle.endian.specs.BigEndian.{writeAt};
-ghost use Rattle.memory.specs.Access.{loadOf, storeAnswer, storeWidth, memoryAfter, timerAfter};
-
-pub fn load_byte(timer: Timer, ram: &[u8], rom: &[u8], belt: &[u8], address: u32) -> Loaded
-    ensures { λ r. ⌜ r ≡ loadOf 1 timer (lent ram rom belt) address ⌝ }
-{
-    let place = memory::place_of(1, ram.len(), rom.len(), belt.len(), address);
-    match place {
-        Place::Ram(at) => Loaded::Value(endian::read_byte(ram, at as usize)),
-        Place::Rom(at) => Loaded::Value(endian::read_byte(rom, at as usize)),
-        Place::Belt(_) => Loaded::Timeout,
-        Place::Timer(_) => Loaded::Timeout,
-        Place::Nothing => Loaded::Timeout,
-    }
-}
-
-pub fn load_half(timer: Timer, ram: &[u8], rom: &[u8], belt: &[u8], address: u32) -> Loaded
-    ensures { λ r. ⌜ r ≡ loadOf 2 timer (lent ram rom belt) address ⌝ }
-{
-    let place = memory::place_of(2, ram.len(), rom.len(), belt.len(), address);
-    match place {
-        Place::Ram(at) => Loaded::Value(endian::read_half(ram, at as usize)),
-        Place::Rom(at) => Loaded::Value(endian::read_half(rom, at as usize)),
-        Place::Belt(_) => Loaded::Timeout,
-        Place::Timer(_) => Loaded::Timeout,
-        Place::Nothing => Loaded::Timeout,
-    }
-}
-
-pub fn load_word(timer: Timer, ram: &[u8], rom: &[u8], belt: &[u8], address: u32) -> Loaded
-    ensures { λ r. ⌜ r ≡ loadOf 4 timer (lent ram rom belt) address ⌝ }
-{
-    let place = memory::place_of(4, ram.len(), rom.len(), belt.len(), address);
-    match place {
-        Place::Ram(at) => Loaded::Value(endian::read_word(ram, at as usize)),
-        Place::Rom(at) => Loaded::Value(endian::read_word_by_halves(rom, at as usize)),
-        Place::Belt(at) => Loaded::Value(endian::read_word_by_halves(belt, at as usize)),
-        Place::Timer(at) => Loaded::Value(timer.read(at)),
-        Place::Nothing => Loaded::Timeout,
-    }
-}
+ghost use Rattle.endian.specs.BigEndian.{readAt, writeAt};
+ghost use Rattle.memory.specs.Access.{loadOf, storeAnswer, accessWidth, memoryAfter, timerAfter};
 
 fn bytes_of(width: u32) -> u32
-    ensures { λ r. ⌜ r ≡ storeWidth width ⌝ }
+    ensures { λ r. ⌜ r ≡ accessWidth width ⌝ }
 {
     match width {
         1 => 1,
@@ -59,10 +20,35 @@ fn bytes_of(width: u32) -> u32
     }
 }
 
+// The number in as many bytes of a slice as the width says.
+fn read(s: &[u8], at: usize, width: u32) -> u32
+    requires { ⌜ at + accessWidth width ≤ length (now s) ⌝ }
+    ensures { λ r. ⌜ r ≡ readAt (accessWidth width) (now (s .entry)) at ⌝ }
+{
+    match width {
+        1 => endian::read_byte(s, at),
+        2 => endian::read_half(s, at),
+        _ => endian::read_word(s, at),
+    }
+}
+
+pub fn load(timer: Timer, ram: &[u8], rom: &[u8], belt: &[u8], width: u32, address: u32) -> Loaded
+    ensures { λ r. ⌜ r ≡ loadOf (accessWidth width) timer (lent ram rom belt) address ⌝ }
+{
+    let place = memory::place_of(bytes_of(width), ram.len(), rom.len(), belt.len(), address);
+    match place {
+        Place::Ram(at) => Loaded::Value(read(ram, at as usize, width)),
+        Place::Rom(at) => Loaded::Value(read(rom, at as usize, width)),
+        Place::Belt(at) => Loaded::Value(read(belt, at as usize, width)),
+        Place::Timer(at) => Loaded::Value(timer.read(at)),
+        Place::Nothing => Loaded::Timeout,
+    }
+}
+
 // The low bytes of a number into a slice, as many as the width says.
 fn write(s: &mut [u8], at: usize, width: u32, value: u32)
-    requires { ⌜ at + storeWidth width ≤ length (now s) ⌝ }
-    ensures { λ r. ⌜ now (s .exit) ≡ writeAt (storeWidth width) (now (s .entry)) at value ⌝ }
+    requires { ⌜ at + accessWidth width ≤ length (now s) ⌝ }
+    ensures { λ r. ⌜ now (s .exit) ≡ writeAt (accessWidth width) (now (s .entry)) at value ⌝ }
 {
     match width {
         1 => endian::write_byte(s, at, value),
@@ -86,9 +72,9 @@ pub fn store(
     address: u32,
     value: u32,
 ) -> Settled
-    ensures answer { λ r. ⌜ r .answer ≡ storeAnswer (storeWidth width) (lent ram rom belt) address ⌝ }
-    ensures timer { λ r. ⌜ r .timer ≡ timerAfter (storeWidth width) timer (lent ram rom belt) address value ⌝ }
-    ensures contents { λ r. ⌜ left ram rom belt ≡ memoryAfter (storeWidth width) (lent ram rom belt) address value ⌝ }
+    ensures answer { λ r. ⌜ r .answer ≡ storeAnswer (accessWidth width) (lent ram rom belt) address ⌝ }
+    ensures timer { λ r. ⌜ r .timer ≡ timerAfter (accessWidth width) timer (lent ram rom belt) address value ⌝ }
+    ensures contents { λ r. ⌜ left ram rom belt ≡ memoryAfter (accessWidth width) (lent ram rom belt) address value ⌝ }
 {
     let place = memory::place_of(bytes_of(width), ram.len(), rom.len(), belt.len(), address);
     match place {

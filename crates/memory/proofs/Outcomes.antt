@@ -14,7 +14,7 @@ use Rattle.memory.specs.declared.Loaded.{Loaded}
 use Rattle.memory.specs.declared.Loaded.the-variants as loaded
 use Rattle.memory.specs.declared.Stored.{Stored}
 use Rattle.memory.specs.declared.Stored.the-variants as stored
-use Rattle.memory.proofs.Places.{place-by, narrow-belt, belt-answers-words, timer-answers-words}
+use Rattle.memory.proofs.Places.{place-by, narrow-belt}
 
 -- ---- stores
 
@@ -132,10 +132,3 @@ module _ (w : ℕ) (t : timer.Timer) (ram rom belt : List ℕ) (a : ℕ) where
 
   pub stores-nothing : (v : ℕ) → At Nothing → Stores v stored.Timeout t ram belt
   stores-nothing v e = stores-at Nothing v e refl refl
-
-  -- a byte or a half-word never has its place in the belt registers or the timer
-  pub loads-no-belt : (w ≡ 4 → ⊥) → (at : ℕ) → At (Belt at) → Loads loaded.Timeout
-  loads-no-belt n at e = absurd (belt-answers-words w (length ram) (length rom) (length belt) a n at e)
-
-  pub loads-no-register : (w ≡ 4 → ⊥) → (at : ℕ) → At (Timer at) → Loads loaded.Timeout
-  loads-no-register n at e = absurd (timer-answers-words w (length ram) (length rom) (length belt) a n at e)

@@ -153,22 +153,6 @@ module _ (w r o b a : ℕ) where
   unfolding placeOf
   place-lies p e = subst (Lies w r o b a) e (words-only-lies (locate w r o b a) lies)
 
-  not-belt : (w ≡ 4 → ⊥) → (at : ℕ) (p : Place) → wordsOnly w p ≡ Belt at → ⊥
-  not-belt n at (Ram x) e = let z : _≡_ {A = ℕ} 0 1 = cc in omega arith
-  not-belt n at (Rom x) e = let z : _≡_ {A = ℕ} 0 1 = cc in omega arith
-  not-belt n at (Belt x) e = let z : _≡_ {A = ℕ} 0 1 = cc (simp (ne-eqb w 4 n) at e) in omega arith
-  not-belt n at (Timer x) e = let z : _≡_ {A = ℕ} 0 1 = cc in omega arith
-  not-belt n at Nothing e = let z : _≡_ {A = ℕ} 0 1 = cc in omega arith
-
-  -- a belt register answers words alone
-  pub belt-answers-words : (w ≡ 4 → ⊥) → (at : ℕ) → placeOf w r o b a ≡ Belt at → ⊥
-  unfolding placeOf
-  belt-answers-words n at e = not-belt n at (locate w r o b a) e
-
-  -- and so does the timer
-  pub timer-answers-words : (w ≡ 4 → ⊥) → (at : ℕ) → placeOf w r o b a ≡ Timer at → ⊥
-  timer-answers-words n at e = n (place-lies (Timer at) e .0)
-
 -- past RAM, ROM and belt, as the code tests the timer's registers
 pub at-register : (w r o b a : ℕ) {x y z : Bool} {p : Place} → x ≡ within 0 r w a → x ≡ false → y ≡ within romBase o w a → y ≡ false
     → z ≡ within beltBase b w a → z ≡ false → registerAt w a ≡ p → p ≡ placeOf w r o b a

@@ -46,9 +46,9 @@ writeIn w m (Belt at) v = memory (m .ram) (m .rom) (writeAt w (m .belt) at v)
 writeIn w m (Timer at) v = m
 writeIn w m Nothing v = m
 
--- the width of a store: no action has another than 1, 2 and 4
-unfoldable pub storeWidth : ℕ → ℕ
-storeWidth width = cond (eqb width 1) 1 (cond (eqb width 2) 2 4)
+-- the width of an access, by a number of the code: none has another than 1, 2 and 4
+unfoldable pub accessWidth : ℕ → ℕ
+accessWidth width = cond (eqb width 1) 1 (cond (eqb width 2) 2 4)
 
 -- the memory after a store: the low w bytes of v are there; ROM never changes
 unfoldable pub memoryAfter : ℕ → Memory → ℕ → ℕ → Memory

@@ -10,7 +10,7 @@ use Rattle.shifts.specs.Shifts.{shiftArithmetic}
 use Rattle.comparison.specs.Comparison.{signedHolds, unsignedHolds}
 use Rattle.endian.specs.BigEndian.{readAt, writeAt}
 use Rattle.memory.specs.Map.{within, registerAt, locate, placeOf}
-use Rattle.memory.specs.Access.{loadOf, storeAnswer, storeWidth, memoryAfter, timerAfter}
+use Rattle.memory.specs.Access.{loadOf, storeAnswer, accessWidth, memoryAfter, timerAfter}
 use Rattle.processor.specs.declared.Processor.{Processor}
 use Rattle.kept_bits.specs.Kept.{keptPsw, keptHigh}
 use Rattle.processor.specs.State.{atReset, withPc, withSpecials, withTlb}
@@ -134,7 +134,7 @@ pub record Starred : Type 0 where
 pub starred : Starred
 unfolding
     timerAtReset raised linesWith ticked registerRead registerWritten
-    stepOf look lookFrom systemDone storeWidth
+    stepOf look lookFrom systemDone accessWidth
     channel lowest vector userCurrent userPrevious userOld interruptCurrent interruptPrevious interruptOld identifier enabled pswOf pushed popped userMode
     readFrom translated forbidden mapped lookup findFrom through valid writable
     loadOf storeAnswer memoryAfter timerAfter placeOf locate registerAt within readAt writeAt

@@ -4,7 +4,7 @@ use Rattle.sums.specs.Sums.{sum}
 use Rattle.timer.specs.declared.Timer.{Timer}
 use Rattle.timer.proofs.Registers.{ticked-fits}
 use Rattle.memory.specs.Map.{Memory}
-use Rattle.memory.specs.Access.{storeWidth}
+use Rattle.memory.specs.Access.{accessWidth}
 use Rattle.memory.proofs.Bytewise.{store-fits}
 use Rattle.processor.specs.declared.Processor.{Processor}
 use Rattle.processor.specs.Register.{special}
@@ -38,7 +38,7 @@ step-fit m lines f = after-fit (m .processor) f (look m lines)
 
 timer-done-fits : (t : Timer) (m : Memory) → t .control ≤ 3 → (a : Action) → timerDone t m a .control ≤ 3
 timer-done-fits t m h (Write n v next) = h
-timer-done-fits t m h (Store width physical v) = store-fits (storeWidth width) t h m physical v
+timer-done-fits t m h (Store width physical v) = store-fits (accessWidth width) t h m physical v
 timer-done-fits t m h (System i) = h
 timer-done-fits t m h (Exception eid address) = h
 

@@ -8,7 +8,7 @@ use lib.ListN.{length, getD, List·getD-eq-default}
 use Rattle.sums.specs.Sums.{sum}
 use Rattle.words.proofs.Cases.{chosen, below-or-not}
 use Rattle.sums.proofs.Sizes.{sum-lt}
-use Rattle.memory.specs.Access.{storeWidth, memoryAfter}
+use Rattle.memory.specs.Access.{accessWidth, memoryAfter}
 use Rattle.timer.specs.Timer.{linesWith}
 use Rattle.timer.proofs.Registers.{ticked-words}
 use Rattle.memory.proofs.Bytewise.{Bytewise, store-bytewise, store-words}
@@ -86,9 +86,9 @@ module _ (m : Machine) (r : Representable m) where
   done-representable : (a : Action) → Small a → Representable (done m a)
   done-representable (Write n v next) h = tick-kept (written-representable m r n v next (h .0) (h .1))
   done-representable (Store width physical v) h =
-      let b : Bytewise (memoryAfter (storeWidth width) (m .memory) physical v) =
-      store-bytewise (storeWidth width) (m .memory) (lent m r) physical v in
-      around-kept moved (ticked-words _ (store-words (storeWidth width) (m .timer) (r .timer) (m .memory) physical v))
+      let b : Bytewise (memoryAfter (accessWidth width) (m .memory) physical v) =
+      store-bytewise (accessWidth width) (m .memory) (lent m r) physical v in
+      around-kept moved (ticked-words _ (store-words (accessWidth width) (m .timer) (r .timer) (m .memory) physical v))
       (λ i k. b .ram i) (λ i k. b .rom i) (λ i k. b .belt i)
   done-representable (System i) h = tick-kept (system-representable i h)
   done-representable (Exception eid address) h = tick-kept (entered-representable m r eid address h)

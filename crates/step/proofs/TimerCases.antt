@@ -9,7 +9,7 @@ use Rattle.endian.specs.BigEndian.{readAt, writeAt}
 use Rattle.timer.specs.Timer.{timer, raised, linesWith, ticked, registerRead, registerWritten}
 use Rattle.timer.specs.declared.Timer.{Timer}
 use Rattle.memory.specs.Map.{within, registerAt, locate, placeOf}
-use Rattle.memory.specs.Access.{loadOf, storeAnswer, storeWidth, memoryAfter, timerAfter}
+use Rattle.memory.specs.Access.{loadOf, storeAnswer, accessWidth, memoryAfter, timerAfter}
 use Rattle.status.specs.Psw.{vector, userCurrent, userPrevious, userOld, interruptCurrent, interruptPrevious, interruptOld, identifier, enabled, pswOf}
 use Rattle.status.specs.Psw.{pushed, popped, userMode}
 use Rattle.translation.specs.Translation.{translated, forbidden, mapped, through, valid, writable}
@@ -80,7 +80,7 @@ pub record TimerSteps : Type 0 where
 pub timer-steps : TimerSteps
 unfolding
     raised linesWith ticked registerRead registerWritten
-    stepOf look lookFrom storeWidth
+    stepOf look lookFrom accessWidth
     channel lowest vector userCurrent userPrevious userOld interruptCurrent interruptPrevious interruptOld identifier enabled pswOf pushed popped userMode
     readFrom translated forbidden mapped lookup findFrom through valid writable
     loadOf storeAnswer memoryAfter timerAfter placeOf locate registerAt within readAt writeAt

@@ -2,7 +2,7 @@
 -- (document 02, job 1).
 use Prim.Native.Nat.{ℕ}
 use Rattle.memory.specs.Map.{Memory}
-use Rattle.memory.specs.Access.{storeWidth, memoryAfter, timerAfter}
+use Rattle.memory.specs.Access.{accessWidth, memoryAfter, timerAfter}
 use Rattle.timer.specs.Timer.{linesWith, ticked}
 use Rattle.timer.specs.declared.Timer.{Timer}
 use Rattle.words.specs.Identifiers.{noException}
@@ -25,13 +25,13 @@ look m lines = lookFrom (surroundingsOf m) (m .processor .registers) (m .process
 
 abbrev pub memoryDone : Memory → Action → Memory
 memoryDone m (Write n v next) = m
-memoryDone m (Store width physical v) = memoryAfter (storeWidth width) m physical v
+memoryDone m (Store width physical v) = memoryAfter (accessWidth width) m physical v
 memoryDone m (System i) = m
 memoryDone m (Exception eid address) = m
 
 abbrev pub timerDone : Timer → Memory → Action → Timer
 timerDone t m (Write n v next) = t
-timerDone t m (Store width physical v) = timerAfter (storeWidth width) t m physical v
+timerDone t m (Store width physical v) = timerAfter (accessWidth width) t m physical v
 timerDone t m (System i) = t
 timerDone t m (Exception eid address) = t
 

@@ -1,5 +1,6 @@
 -- `access::read_word` meets its contract, by the laws of Faults.
 use Rattle.access.proofs.ReadFaults.{to-a-fault, to-a-load}
+use Rattle.memory.specs.Access.{accessWidth}
 use borrow.Author.Needs.{needs}
 use Rattle.access.proofs.read_word.Statement.{statement}
 use Rattle.access.proofs.read_word.Tie as tie
@@ -8,10 +9,11 @@ returns : tie.Need-returns
 returns c = to-a-fault 4 _ _ (c .before .before .translate .ensures) (c .before .match .keys2) (c .eid-of .ensures)
 
 returns-2 : tie.Need-returns-2
+unfolding accessWidth
 returns-2 c =
     let at-place = c .before .before .before in
     let at-translate = at-place .before .before in
-    to-a-load 4 _ _ (at-translate .translate .ensures) (at-place .place .given .1) (c .before .load-word .ensures) (c .brought .ensures)
+    to-a-load 4 _ _ (at-translate .translate .ensures) (at-place .place .given .1) (c .before .load .ensures) (c .brought .ensures)
 
 pub read-word-spec : {M : Type 1} → statement M
 read-word-spec =
