@@ -1,8 +1,9 @@
-# The library, its command-line host, the belt's week, the pusher, the tests, and the installation.
+# The library, its command-line host, the belt's week, the pusher, the refill, the tests, and the installation.
 #
 #   make                               the library, if it is missing or older than crates/, libeco32.so, target/host/eco32 and its page
 #   make week                          the library and the belt's week (examples/belt)
 #   make pusher                        the library and the pusher that the timer paces (examples/timer)
+#   make refill                        the library and the refill that the replacement index leads (examples/refill)
 #   make check                         the tests that need no proof, in under a minute
 #   make test                          the gate, .ci/run
 #   make bench                         the model's speed beside a plain C simulator's and the Rust simulator's; its code at six places
@@ -37,17 +38,19 @@ SONAME = libeco32.so.$(ABI)
 SHARED_NAME = $(SONAME).$(word 2,$(subst ., ,$(VERSION))).$(word 3,$(subst ., ,$(VERSION)))
 SHARED = target/shared/$(SHARED_NAME)
 MANUAL = target/man/eco32.1
-MADE_OF_PROOFS = $(LIBRARY) target/shared/libeco32.so* $(HOST) $(BELT) $(PUSHER) $(BENCH) $(PLACEMENTS)
+MADE_OF_PROOFS = $(LIBRARY) target/shared/libeco32.so* $(HOST) $(BELT) $(PUSHER) $(REFILL) $(BENCH) $(THREE) $(PLACEMENTS)
 
 # The bench: -O3 for C, as cargo's release profile has it for Rust. BENCH_FLAGS may be --steps N and --rounds N.
 BENCH = target/bench/bench
 REPLAY = target/bench/replay
+THREE = target/bench/refill
 BENCH_CFLAGS = -O3
 BENCH_FLAGS =
 BENCH_RUST = target/bench/rust/release/libeco32_bench.a
 PLAIN_OBJECTS = target/bench/plain.o target/bench/record.o
 BENCH_OBJECTS = target/bench/bench.o target/bench/images.o $(PLAIN_OBJECTS)
 REPLAY_OBJECTS = target/bench/replay.o $(PLAIN_OBJECTS)
+THREE_OBJECTS = target/bench/refill.o $(PLAIN_OBJECTS)
 PLACEMENTS = $(addprefix target/bench/placed-,0 32 96 208 1056 2100)
 
 # What the library is proved and made of. The directories stand for files that are gone.
@@ -61,7 +64,9 @@ WEEK = examples/belt/belt.rom examples/belt/belt.ram examples/belt/packs.txt exa
 PUSHER = target/pusher
 STROKES = examples/timer/pusher.rom 1000 6
 
-.PHONY: all week pusher check test bench cargo install uninstall clean absolute
+REFILL = target/refill
+
+.PHONY: all week pusher refill check test bench cargo install uninstall clean absolute
 
 all: $(LIBRARY) $(HOST)
 
@@ -89,7 +94,7 @@ target/host/%.o: host/%.c
 	@mkdir -p $(@D)
 	$(CC) -std=c11 $(WARNINGS) $(CPPFLAGS) $(CFLAGS) -Iinclude -MMD -MP -c $< -o $@
 
--include $(OBJECTS:.o=.d) $(BENCH_OBJECTS:.o=.d) target/bench/replay.d
+-include $(OBJECTS:.o=.d) $(BENCH_OBJECTS:.o=.d) target/bench/replay.d target/bench/refill.d
 
 $(BELT): $(BELT_SOURCES) $(wildcard examples/belt/*.h include/*.h) $(LIBRARY)
 	@$(CC) -std=c11 $(WARNINGS) $(CPPFLAGS) $(CFLAGS) $(LDFLAGS) -Iinclude $(BELT_SOURCES) $(LIBRARY) $(LDLIBS) -o $@
@@ -102,6 +107,12 @@ $(PUSHER): examples/timer/pusher.c $(wildcard include/*.h) $(LIBRARY)
 
 pusher: $(PUSHER)
 	@$(PUSHER) $(STROKES)
+
+$(REFILL): examples/refill/refill.c $(wildcard include/*.h) $(LIBRARY)
+	@$(CC) -std=c11 $(WARNINGS) $(CPPFLAGS) $(CFLAGS) $(LDFLAGS) -Iinclude $< $(LIBRARY) $(LDLIBS) -o $@
+
+refill: $(REFILL)
+	@$(REFILL) examples/refill/refill.rom
 
 check:
 	@tests/check
@@ -125,6 +136,10 @@ target/bench/pad-%.o:
 
 target/bench/placed-%: target/bench/pad-%.o $(BENCH_OBJECTS) $(LIBRARY) $(BENCH_RUST)
 	$(CC) $(BENCH_CFLAGS) $(LDFLAGS) $(BENCH_OBJECTS) $< $(LIBRARY) $(BENCH_RUST) -lpthread -ldl -lm -o $@
+
+# The refill's firmware on the same three as the bench, for tests/refill.
+$(THREE): $(THREE_OBJECTS) $(LIBRARY) $(BENCH_RUST)
+	$(CC) $(BENCH_CFLAGS) $(LDFLAGS) $^ -lpthread -ldl -lm -o $@
 
 $(REPLAY): $(REPLAY_OBJECTS)
 	$(CC) $(BENCH_CFLAGS) $(LDFLAGS) $^ -o $@
@@ -195,4 +210,4 @@ uninstall: absolute
 
 clean:
 	rm -rf target/host target/bench target/shared target/man target/install
-	rm -f $(LIBRARY) $(LIBRARY_LOG) $(BELT) $(PUSHER)
+	rm -f $(LIBRARY) $(LIBRARY_LOG) $(BELT) $(PUSHER) $(REFILL)

@@ -34,6 +34,7 @@ static void trace_registers(const uint8_t *before, const uint8_t *after)
     }
 }
 
+/* The replacement index goes up in every step, so a line says nothing of it. The entry that TBWR changed names it. */
 static void trace_tlb(const uint8_t *before, const uint8_t *after)
 {
     for (unsigned i = 0; i < TLB_COUNT; i++) {
@@ -42,8 +43,6 @@ static void trace_tlb(const uint8_t *before, const uint8_t *after)
         if (high != state_tlb_high(before, i) || low != state_tlb_low(before, i))
             printf(" TLB%u=%08" PRIX32 ":%08" PRIX32, i, high, low);
     }
-    if (state_replacement(before) != state_replacement(after))
-        printf(" replacement=%" PRIu32, state_replacement(after));
 }
 
 /* Bytes that an instruction stores; 0 if it is no STW, STH or STB. */

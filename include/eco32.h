@@ -27,6 +27,10 @@
  * before its own tick. Programs load and store control and divisor, as whole
  * words, at the addresses below; a store to the divisor loads the counter too.
  *
+ * Replacement index. It goes up by 1 after every step, a step that accepts an
+ * exception too, and from 31 to 4. TBWR writes the TLB entry that the index
+ * named before that step, and moves it no further.
+ *
  * Words in records, ROM and RAM images and belt registers are big-endian.
  *
  * eco32_text.h has words for the numbers that the calls answer.
@@ -46,9 +50,9 @@ extern "C" {
  * need changes for a later one if the major number is another, or, as long as
  * that is 0, the minor number. */
 #define ECO32_VERSION_MAJOR 0
-#define ECO32_VERSION_MINOR 3
+#define ECO32_VERSION_MINOR 4
 #define ECO32_VERSION_PATCH 0
-#define ECO32_VERSION "0.3.0"
+#define ECO32_VERSION "0.4.0"
 
 /* The number N in libeco32.so.N, the name of the shared library. It goes up with
  * the first version in which a program that was linked before would no longer
@@ -197,8 +201,8 @@ uint32_t eco32_write_record(const uint8_t *machine, size_t machine_len,
 
 /*
  * Plain run: makes exactly the wanted steps, through exceptions and
- * interrupts too. A step accepts an interrupt or executes one instruction, and
- * then the timer ticks.
+ * interrupts too. A step accepts an interrupt or executes one instruction; then
+ * the replacement index moves, and the timer ticks.
  *
  *   machine  the machine, 424 bytes; written with the state after the run
  *   ram      RAM; written by the program's stores

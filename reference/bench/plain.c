@@ -16,7 +16,8 @@ enum eid {
     PRIVILEGED_ADDRESS,
     NONE = ECO32_NO_EXCEPTION,
     CONTROL_STORED, /* no exception either: a store to the timer has completed */
-    DIVISOR_STORED
+    DIVISOR_STORED,
+    ENTRY_DUE /* nor here: TBWR, which has still to write its entry */
 };
 
 #define PSW_V 0x08000000u
@@ -387,14 +388,6 @@ static uint32_t search(struct plain_machine *m)
     return NONE;
 }
 
-static uint32_t replace(struct plain_machine *m)
-{
-    uint32_t index = m->replacement;
-
-    m->replacement = index < 31 ? index + 1 : 4;
-    return write_entry(m, index);
-}
-
 /* The privileged instructions (3.6); TRAP is with control flow. */
 static uint32_t privileged(struct plain_machine *m, const struct fields *f)
 {
@@ -407,7 +400,7 @@ static uint32_t privileged(struct plain_machine *m, const struct fields *f)
     case MVFS: return set(m, f->second, f->immediate < SPECIALS ? m->special[f->immediate] : 0);
     case MVTS: return set_special(m, f->immediate, f->y);
     case TBS: return search(m);
-    case TBWR: return replace(m);
+    case TBWR: return ENTRY_DUE;
     case TBRI: return read_entry(m, m->special[TLB_INDEX] & 31);
     default: return write_entry(m, m->special[TLB_INDEX] & 31); /* TBWI */
     }
@@ -447,7 +440,7 @@ static uint32_t lowest_bit(uint32_t bits)
     return n;
 }
 
-/* A step without its tick. */
+/* A step without its tick, its move of the replacement index, and the entry of TBWR. */
 static uint32_t step(struct plain_machine *m, const struct plain_memory *memory, uint16_t lines)
 {
     uint32_t ready = m->special[PSW] & lines;
@@ -465,16 +458,33 @@ static uint32_t step(struct plain_machine *m, const struct plain_memory *memory,
     return eid;
 }
 
+/* The replacement index after so many steps: up by 1 with each, 31 to 4 (document 02, job 4). */
+static uint32_t moved(uint32_t index, uint64_t steps)
+{
+    return 4 + (uint32_t)((index - 4 + steps) % 28);
+}
+
+/* What so many steps leave for their end: the moves of the index, the ticks, and the entry of a TBWR, which goes where the
+ * index was before its last move. TBWR alone asks for the index, so it ends a stretch. Moved in every step, the index costs
+ * each 3 to 4 in a hundred; counted by TBWR within a stretch, 1 to 2. A new divisor has taken the counter, so it only gets
+ * the tick of its own step. */
+static void settle(struct plain_machine *m, uint64_t made, uint32_t eid)
+{
+    m->replacement = moved(m->replacement, made);
+    timer_ticks(&m->timer, eid == DIVISOR_STORED ? 1 : made);
+    if (eid == ENTRY_DUE)
+        write_entry(m, m->replacement > 4 ? m->replacement - 1 : 31);
+}
+
 uint32_t plain_step(struct plain_machine *m, const struct plain_memory *memory, uint16_t lines)
 {
     uint32_t eid = step(m, memory, timer_lines(&m->timer, lines));
 
-    timer_ticks(&m->timer, 1);
+    settle(m, 1, eid);
     return eid < NONE ? eid : NONE;
 }
 
-/* Steps up to the timer's next wrap, to a store to the timer or to the most wanted, and their ticks. A new divisor has
- * taken the counter, so it only gets the tick of its own step. */
+/* Steps up to the timer's next wrap, to a store to the timer, to TBWR or to the most wanted, and what they leave. */
 static uint64_t stretch(struct plain_machine *m, const struct plain_memory *memory, uint16_t lines, uint64_t most)
 {
     uint64_t to_wrap = timer_to_wrap(&m->timer);
@@ -488,7 +498,7 @@ static uint64_t stretch(struct plain_machine *m, const struct plain_memory *memo
         eid = step(m, memory, lines);
         made++;
     } while (made < most && eid <= NONE);
-    timer_ticks(&m->timer, eid == DIVISOR_STORED ? 1 : made);
+    settle(m, made, eid);
     return made;
 }
 

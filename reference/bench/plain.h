@@ -1,7 +1,7 @@
 /*
  * A plain ECO32 simulator in C, to measure the model by: one step in place, with no table, cache or translation made
- * beforehand. A run makes the timer's ticks together where nothing can tell (timer.h). It refuses nothing: it may be
- * handed only what eco32_run would accept.
+ * beforehand. A run makes the timer's ticks together where nothing can tell (timer.h), and the moves of the replacement
+ * index. It refuses nothing: it may be handed only what eco32_run would accept.
  */
 #ifndef BENCH_PLAIN_H
 #define BENCH_PLAIN_H
@@ -40,7 +40,7 @@ void plain_reset(struct plain_machine *m);
 void plain_read(struct plain_machine *m, const uint8_t *record);
 void plain_write(const struct plain_machine *m, uint8_t *record);
 
-/* Makes one step and its tick. Answers the EID of the exception that it accepted, or 32. */
+/* Makes one step, its tick and the index's move. Answers the EID of the exception that it accepted, or 32. */
 uint32_t plain_step(struct plain_machine *m, const struct plain_memory *memory, uint16_t lines);
 
 /* The plain run, called as eco32_run is. */

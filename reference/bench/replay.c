@@ -1,6 +1,7 @@
 /*
  * Replays the file of vectors on the plain simulator: machine, EID and all memory after each step. Steps in a row with the
- * same lines are made once more as one run, which has to end alike: it makes the timer's ticks in another way.
+ * same lines are made once more as one run, which has to end alike: it makes the timer's ticks and the moves of the
+ * replacement index in another way.
  *
  * The file's commands have 8 bytes, big-endian: a kind byte, a number a of 24 bits, a number b of 32 bits.
  * reference/src/vectors/writer.rs writes them.

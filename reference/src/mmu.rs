@@ -73,10 +73,16 @@ impl Processor {
         };
     }
 
-    /// TBWR (manual 3.6.6). The replacement index stands for the random
-    /// number: document 01, "Closed by us".
+    /// TBWR (manual 3.6.6). The replacement index, as it is before the step's
+    /// move, stands for the random number: document 02, job 4.
     pub fn write_tlb_random(&mut self) {
         self.write_tlb(u32::from(self.replacement));
+    }
+
+    /// The move of the replacement index after each step, exceptions included.
+    /// Document 02, job 4, withdraws the rule of document 01 by which TBWR
+    /// alone moved it.
+    pub fn move_replacement(&mut self) {
         self.replacement = if self.replacement >= LAST_REPLACED {
             FIRST_REPLACED
         } else {

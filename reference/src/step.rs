@@ -1,4 +1,5 @@
-//! One step: interrupt or instruction, then the timer's tick.
+//! One step: interrupt or instruction, then the timer's tick and the move of the
+//! replacement index.
 
 use crate::exception::{Fault, NO_EXCEPTION};
 use crate::memory::{Memory, Width};
@@ -53,15 +54,18 @@ fn shift_arithmetic(x: u32, count: u32) -> u32 {
 }
 
 impl Processor {
-    /// Makes one step and the tick after it (document 01, "One step"; document
-    /// 02, job 1). Answers the EID of the exception accepted in it, or 32.
+    /// Makes one step (document 01, "One step"), the tick after it and the move
+    /// of the replacement index (document 02, jobs 1 and 4). Answers the EID of
+    /// the exception accepted in it, or 32.
     pub fn step(&mut self, memory: &mut Memory, lines: u16) -> u32 {
-        let eid = self.step_without_tick(memory, lines);
+        let eid = self.effects(memory, lines);
         self.timer.tick();
+        self.move_replacement();
         eid
     }
 
-    fn step_without_tick(&mut self, memory: &mut Memory, lines: u16) -> u32 {
+    /// The effects of the step itself.
+    fn effects(&mut self, memory: &mut Memory, lines: u16) -> u32 {
         if let Some(channel) = self.due_channel(lines) {
             self.accept_interrupt(channel);
             return channel;

@@ -17,6 +17,7 @@ mod page_view;
 mod physical;
 mod programs;
 mod record;
+mod replacement;
 mod runs;
 mod system;
 mod timer;

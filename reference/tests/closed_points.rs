@@ -1,4 +1,5 @@
-//! Each line of document 01, "Closed by us".
+//! Each line of document 01, "Closed by us", but that about TBWR and the
+//! replacement index: document 02, job 4, withdraws it (tests/replacement.rs).
 
 use crate::common::{put, timer, Rig};
 use eco32_reference::asm::*;
@@ -148,30 +149,8 @@ fn kept_bits_read_back() {
         low: 0xFFFF_F003,
     };
     assert_eq!(rig.cpu.tlb[0], entry);
-    assert_eq!(rig.cpu.tlb[4], entry);
-}
-
-#[test]
-fn only_tbwr_moves_the_replacement_index() {
-    for (before, after) in [(4, 5), (5, 6), (30, 31), (31, 4)] {
-        let mut rig = Rig::with_rom(&[tbwr()]);
-        rig.cpu.replacement = before;
-        rig.step();
-        assert_eq!(rig.cpu.replacement, after);
-    }
-    for opcode in (0..64).filter(|&opcode| opcode != 0x3B) {
-        let mut rig = Rig::with_rom(&[opcode << 26]);
-        rig.cpu.replacement = 17;
-        rig.step();
-        assert_eq!(rig.cpu.replacement, 17, "{opcode:02X}");
-    }
-    let mut rig = Rig::in_user_mode(tbwr());
-    rig.step();
-    assert_eq!(rig.cpu.replacement, 4);
-    let mut rig = Rig::with_rom(&[tbwr()]);
-    rig.cpu.psw = 0x0080_0001;
-    assert_eq!(rig.step_with(1), 0);
-    assert_eq!(rig.cpu.replacement, 4);
+    // Three steps came before TBWR.
+    assert_eq!(rig.cpu.tlb[7], entry);
 }
 
 #[test]

@@ -1,10 +1,11 @@
 //! Interrupts (manual 2.7.3 and 2.8, document 01, "One step").
 
 use crate::common;
-use crate::common::Rig;
+use crate::common::{moved, Rig};
 use eco32_reference::asm::*;
 
-/// Checks that the step accepts `channel` and has no effect but entry.
+/// Checks that the step accepts `channel` and has no effect but entry and the
+/// move of the replacement index.
 #[track_caller]
 fn accepts(rig: &Rig, lines: u16, channel: u32, psw: u32, pc: u32) {
     let mut after = rig.clone();
@@ -12,6 +13,7 @@ fn accepts(rig: &Rig, lines: u16, channel: u32, psw: u32, pc: u32) {
     expected.registers[30] = rig.cpu.pc;
     expected.psw = psw;
     expected.pc = pc;
+    expected.replacement = moved(rig.cpu.replacement, 1);
     assert_eq!(after.step_with(lines), channel);
     assert_eq!(after.cpu, expected);
     rig.memory_equals(&after, "interrupt");

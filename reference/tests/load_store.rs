@@ -1,6 +1,6 @@
 //! Load and store instructions (manual 3.5).
 
-use crate::common::{get, put, Rig};
+use crate::common::{get, moved, put, Rig};
 use eco32_reference::asm::*;
 
 type Transfer = fn(u32, u32, i32) -> u32;
@@ -67,6 +67,7 @@ fn stores_write_their_width_only() {
         let mut cpu = rig.cpu.clone();
         let mut ram = rig.ram.clone();
         cpu.pc = 0xE000_0004;
+        cpu.replacement = moved(cpu.replacement, 1);
         put(&mut ram, 0x100, first);
         put(&mut ram, 0x104, second);
         assert_eq!(rig.step(), 32);

@@ -151,7 +151,7 @@ fn tbri_and_tbwi_use_the_index() {
 #[test]
 fn tbwr_walks_over_the_non_fixed_entries() {
     for ignored in [0, IGNORED] {
-        let mut rig = Rig::with_rom(&[tbwr() | ignored, j(-2)]);
+        let mut rig = Rig::with_rom(&[tbwr() | ignored; 60]);
         for turn in 0..60usize {
             let index = 4 + turn % 28;
             rig.cpu.entry_high = (turn as u32) << 12;
@@ -161,11 +161,7 @@ fn tbwr_walks_over_the_non_fixed_entries() {
                 low: rig.cpu.entry_low,
             };
             assert_eq!(rig.cpu.replacement as usize, index);
-            rig.completes("TBWR", |cpu| {
-                cpu.tlb[index] = entry;
-                cpu.replacement = if index == 31 { 4 } else { index as u8 + 1 };
-            });
-            rig.step();
+            rig.completes("TBWR", |cpu| cpu.tlb[index] = entry);
             rig.step();
         }
     }

@@ -1,6 +1,6 @@
 //! Accesses to the timer's frame (manual 5.4; document 02, job 1).
 
-use crate::common::{put, timer, Rig, TIMER, USER};
+use crate::common::{moved, put, timer, Rig, TIMER, USER};
 use eco32_reference::asm::*;
 use eco32_reference::{Processor, Timer};
 
@@ -195,6 +195,7 @@ fn memory_beside_the_timer() {
     let mut expected = Processor::reset();
     expected.registers[1..4].copy_from_slice(&[TIMER, 0xFFFF_FFFF, 0xFFFF_FFFF]);
     expected.pc = 0xE000_000C;
+    expected.replacement = moved(expected.replacement, 3);
     expected.timer = timer(0xFFFF_FFFF, 0xFFFF_FFFD, 3);
     assert_eq!(rig.cpu, expected);
 }

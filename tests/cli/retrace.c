@@ -1,13 +1,15 @@
 /* Reads a trace of a run from reset on RAM of 65,536 zeros and without lines, up to the line about the steps, and writes
  * the RAM that its stores make. Fails where a line has no PC that follows from the line before, where a step that stores
  * shows no store or another step shows one, where a step without a fetch is neither an interrupt nor a fault of a fetch,
- * where the timer is not what the line before and the tick make of it, or where its interrupt comes or fails to come. */
+ * where TBWR changes another TLB entry than that of its step, where the timer is not what the line before and the tick
+ * make of it, or where its interrupt comes or fails to come. */
 #include <stdio.h>
 #include <stdlib.h>
 #include <string.h>
 
 #define RAM_LENGTH 65536
 #define CHANNEL 14
+#define OPCODE_TBWR 0x3B
 #define PSW_ACCEPTS 0x00804000UL /* I_C, and bit 14 of IEN */
 
 /* What a trace line follows from. */
@@ -52,6 +54,14 @@ static void store(const char *at, const char *line, struct state *s)
         check(sscanf(bytes + i, "%2x", &byte) == 1, line, "no byte");
         ram[physical++] = (unsigned char)byte;
     }
+}
+
+/* The entry that TBWR changed, if it changed one. From reset on every step moves the index that names it: 4 to 31, and round. */
+static void random_entry(const char *line, unsigned long step)
+{
+    const char *at = strstr(line, " TLB");
+
+    check(at == NULL || strtoul(at + 4, NULL, 10) == 4 + (step - 1) % 28, line, "another entry");
 }
 
 static int may_lack_word(long eid)
@@ -111,6 +121,8 @@ static void take(const char *line, struct state *s)
           line, "an interrupt, or none");
     if (stored != NULL)
         store(stored, line, s);
+    if (completes && opcode == OPCODE_TBWR)
+        random_entry(line, number);
     tick(line, &before, s);
     if (psw != NULL)
         s->psw = strtoul(psw + 5, NULL, 16);

@@ -1,4 +1,4 @@
-/* A host written from include/eco32.h alone: every call, its answers and its refusals; the timer. */
+/* A host written from include/eco32.h alone: every call, its answers and its refusals; the timer; the replacement index. */
 #include "eco32.h"
 
 #include <stdio.h>
@@ -228,6 +228,45 @@ static void timer(void)
           "but the line does");
 }
 
+static void index_moves(void)
+{
+    struct world w;
+
+    load_program(&w);
+    check(w.machine[ECO32_RECORD_REPLACEMENT] == 4, "the replacement index at reset");
+    run(&w, sizeof w.ram, 3);
+    check(w.machine[ECO32_RECORD_REPLACEMENT] == 7, "every step moves it");
+    run_to_exception(&w, ECO32_MOST_STEPS);
+    check(w.machine[ECO32_RECORD_REPLACEMENT] == 8, "a step that accepts an exception too");
+    run(&w, sizeof w.ram, 0);
+    run(&w, sizeof w.ram, ECO32_MOST_STEPS + 1);
+    check(w.machine[ECO32_RECORD_REPLACEMENT] == 8, "no steps and a refused run leave it");
+    run(&w, sizeof w.ram, 28);
+    check(w.machine[ECO32_RECORD_REPLACEMENT] == 8, "it comes round in 28 steps");
+    run(&w, sizeof w.ram, ECO32_MOST_STEPS);
+    check(w.machine[ECO32_RECORD_REPLACEMENT] == 16, "and 35,714 times in 999,992");
+}
+
+/* TBWR; TBWR; TBWI. From index 31, with TLB Index 9. */
+static void entries(void)
+{
+    struct world w;
+    int i;
+
+    load_program(&w);
+    put_word(w.rom, 0xEC000000);
+    put_word(w.rom + 4, 0xEC000000);
+    put_word(w.rom + 8, 0xF4000000);
+    w.machine[ECO32_RECORD_REPLACEMENT] = 31;
+    w.machine[ECO32_RECORD_TLB_INDEX + 3] = 9;
+    put_word(w.machine + ECO32_RECORD_ENTRY_HIGH, 0x00001000);
+    run(&w, sizeof w.ram, 3);
+    for (i = 0; i < 32; i++)
+        check(get_word(w.machine + ECO32_RECORD_TLB + 8 * i) == (i == 31 || i == 4 || i == 9 ? 0x00001000 : 0xC0000000),
+              "TBWR writes where the index was before its step, TBWI where TLB Index is");
+    check(w.machine[ECO32_RECORD_REPLACEMENT] == 6, "neither moves the index further");
+}
+
 static void views(void)
 {
     struct world w;
@@ -248,6 +287,8 @@ int main(void)
     old_records();
     other_lengths();
     timer();
+    index_moves();
+    entries();
     views();
     if (failures == 0)
         printf("host: every call answered as eco32.h says\n");

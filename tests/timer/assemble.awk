@@ -1,5 +1,5 @@
 # Reads a listing such as examples/timer/pusher.lst, twice, and prints each address with the word that its instruction makes. The formats are
-# those of the manual's chapter 3; only the instructions that the listing uses are known here.
+# those of the manual's chapter 3; only the instructions that the listings use are known here.
 #
 #   awk -f assemble.awk LISTING LISTING
 
@@ -31,7 +31,8 @@ function fail(what) {
 }
 
 BEGIN {
-    split("ADDI 1 ANDI 17 ORI 19 XORI 21 SLRI 27 LDHI 31 BNE 33 J 42 RFX 47 LDW 48 STW 53 MVFS 56 MVTS 57", table, " ")
+    split("ADD 0 ADDI 1 ANDI 17 ORI 19 XORI 21 SLLI 25 SLRI 27 LDHI 31 BEQ 32 BNE 33 BGEU 39 J 42 TRAP 46 RFX 47 LDW 48 STW 53 STH 54 " \
+        "MVFS 56 MVTS 57 TBS 58 TBWR 59", table, " ")
     for (i = 1; i in table; i += 2)
         opcode[table[i]] = table[i + 1]
 }
@@ -51,11 +52,13 @@ FNR == NR || !/^[0-9A-F]/ { next }
     word = opcode[$3] * 67108864
     if ($3 == "J")
         word += offset($4, 67108864)
-    else if ($3 == "BNE")
+    else if ($3 == "ADD")
+        word += register($5) * 2097152 + register($6) * 65536 + register($4) * 2048
+    else if ($3 ~ /^B/)
         word += register($4) * 2097152 + register($5) * 65536 + offset($6, 65536)
     else if ($3 ~ /^(LDHI|MVFS|MVTS)$/)
         word += register($4) * 65536 + number($5)
-    else if ($3 != "RFX")
+    else if ($3 !~ /^(TRAP|RFX|TBS|TBWR)$/)
         word += register($5) * 2097152 + register($4) * 65536 + number($6)
     printf "%s  %04X%04X\n", $1, int(word / 65536), word % 65536
 }

@@ -1,5 +1,6 @@
-// Document 01's cases that are run, a line for each: lengths, steps, records, page views, each refusal, and their order; and the timer's of
-// document 02.
+// Document 01's cases that are run, a line for each: lengths, steps, records, page views, each refusal, and their order; and document 02's of
+// the timer and of the replacement index.
+mod indexes;
 mod lengths;
 mod reads;
 mod records;
@@ -17,6 +18,7 @@ fn main() {
     lengths::print_lengths(true);
     states::print_machines();
     timers::print_timers();
+    indexes::print_indexes();
     steps::print_order();
     reads::print_reads();
     writes::print_writes();

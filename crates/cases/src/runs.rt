@@ -25,7 +25,39 @@ fn print_outcome(outcome: Outcome) {
     }
 }
 
-// With a program of two words at the start of the ROM.
+// The run itself, with a program of two words at the start of the ROM.
+pub fn outcome_of(
+    kind: bool,
+    p: Processor,
+    timer: Timer,
+    program: u64,
+    ram: usize,
+    rom: usize,
+    belt: usize,
+    wanted: u64,
+) -> Outcome
+    requires { ⌜ (ram ≤ 8192) × (rom ≤ 8192) × (belt ≤ 2048) ⌝ }
+{
+    let mut rambytes = [FILL; 8192];
+    let ramcopy = [FILL; 8192];
+    let mut beltbytes = [FILL; 2048];
+    let beltcopy = [FILL; 2048];
+    let mut rombytes = [0u8; 8192];
+    endian::write_word(&mut rombytes, 0, (program / 0x1_0000_0000) as u32);
+    endian::write_word(&mut rombytes, 4, (program % 0x1_0000_0000) as u32);
+    machines::run(
+        kind,
+        p,
+        timer,
+        &mut rambytes[..ram],
+        &rombytes[..rom],
+        &mut beltbytes[..belt],
+        wanted,
+        &ramcopy[..ram],
+        &beltcopy[..belt],
+    )
+}
+
 pub fn print_run(
     kind: bool,
     p: Processor,
@@ -38,25 +70,7 @@ pub fn print_run(
 )
     requires { ⌜ (ram ≤ 8192) × (rom ≤ 8192) × (belt ≤ 2048) ⌝ }
 {
-    let mut rambytes = [FILL; 8192];
-    let ramcopy = [FILL; 8192];
-    let mut beltbytes = [FILL; 2048];
-    let beltcopy = [FILL; 2048];
-    let mut rombytes = [0u8; 8192];
-    endian::write_word(&mut rombytes, 0, (program / 0x1_0000_0000) as u32);
-    endian::write_word(&mut rombytes, 4, (program % 0x1_0000_0000) as u32);
-    let outcome = machines::run(
-        kind,
-        p,
-        timer,
-        &mut rambytes[..ram],
-        &rombytes[..rom],
-        &mut beltbytes[..belt],
-        wanted,
-        &ramcopy[..ram],
-        &beltcopy[..belt],
-    );
-    print_outcome(outcome);
+    print_outcome(outcome_of(kind, p, timer, program, ram, rom, belt, wanted));
 }
 
 // Both kinds of a run, each after the name of the case. In the name # stands for the steps wanted, then for the timer's numbers.

@@ -4,12 +4,14 @@ use mathlib.Core.Bool.{Bool, true, false, cond, true≢false}
 use mathlib.Core.List.{List, [], _∷_}
 use Prim.Native.Nat.{ℕ, suc}
 use Rattle.timer.specs.Timer.{ticked, ticks}
+use Rattle.tlb.specs.Lookup.{nextReplacement, replacementAfter}
 use Rattle.memory.specs.Map.{Memory}
 use Rattle.machine.specs.Machine.{Machine, Representable}
 use Rattle.isolation.specs.Frames.{TimerNotWritable, SameIn}
 use Rattle.words.specs.Lists.{Pairwise}
 use Rattle.isolation.specs.Trace.{Call, Made, inUserMode, callOutcome, callTrace, traceOf, upToLeaving, madeInUserMode, answersOf}
 use Rattle.isolation.specs.Claim.{Held, HeldStep, Consecutive, Numbered, Alike, AlikeAfter, Isolated}
+use Rattle.step.proofs.IndexLaws.{step-moves}
 use Rattle.isolation.proofs.UserStep.{step-ticks, step-left}
 use Rattle.isolation.proofs.TraceLaws.{Follows, trace-follows}
 use Rattle.isolation.proofs.Lift.{Both, BothAfter}
@@ -52,7 +54,6 @@ held-at-start m =
     record {
       tlbhigh = refl;
       tlblow = refl;
-      replacement = refl;
       rom = refl;
       frames = same-memory _ (m .memory);
       staying = λ _. refl;
@@ -99,6 +100,17 @@ module _ (start : Machine) where
   steps-held m [] h = tt
   steps-held m (x ∷ xs) h = (h .0 .0, steps-held (x .machine) xs (h .1))
 
+-- each step moves the index once, so n steps move it n times
+indexed : (start : Machine) (n : ℕ) (m : Machine) (xs : List Made) → m .processor .replacement ≡ replacementAfter n (start .processor .replacement)
+    → Consecutive (HeldTick start) m xs
+    → Numbered (λ k s. s .machine .processor .replacement ≡ replacementAfter k (start .processor .replacement)) (suc n) xs
+unfolding replacementAfter
+indexed start n m [] e h = tt
+indexed start n m (x ∷ xs) e h =
+    let now : x .machine .processor .replacement ≡ replacementAfter (suc n) (start .processor .replacement) =
+    ap (λ (k : Machine). k .processor .replacement) (h .0 .0 .step) ∙ step-moves m (x .lines) ∙ ap nextReplacement e in
+    (now, indexed start (suc n) (x .machine) xs now (h .1))
+
 -- each step ticks once, so n steps tick n times
 numbered : (start : Machine) → TimerNotWritable (start .processor) → (n : ℕ) (m : Machine) (xs : List Made) → m .timer ≡ ticks n (start .timer)
     → Consecutive (HeldTick start) m xs → Numbered (λ k s. s .machine .timer ≡ ticks k (start .timer)) (suc n) xs
@@ -127,12 +139,13 @@ module _ (calls : List Call) (start : Machine) (types : Representable start) (us
       (begun start types (record { processor = refl; timer = refl; frames = same-memory _ (start .memory) })) user)
 
   pub isolated : Isolated calls start
-  unfolding ticks
+  unfolding ticks replacementAfter
   isolated =
       record {
         integrity =
             record {
               steps = steps-held start start (upToLeaving (traceOf calls start)) held;
+              index = indexed start 0 start (upToLeaving (traceOf calls start)) refl held;
               timer = λ closed. numbered start closed 0 start (upToLeaving (traceOf calls start)) refl held;
             };
         confidentiality = λ twin types′ alike.

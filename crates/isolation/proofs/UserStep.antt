@@ -19,6 +19,7 @@ use Rattle.translation.specs.Translation.{valid, writable, frameOf}
 use Rattle.processor.specs.Entry.{entryHighAfter, badAddressAfter}
 use Rattle.processor.specs.Exception.{entered}
 use Rattle.processor.specs.Register.{written, jumped}
+use Rattle.processor.specs.Tlb.{indexMoved}
 use Rattle.processor.specs.declared.Processor.{Processor}
 use Rattle.status.proofs.PswLaws.{pushed-kernel}
 use Rattle.translation.proofs.Granted.{user-granted}
@@ -115,7 +116,6 @@ module _ (start m : Machine) (held : Held start m) (user : inUserMode m ≡ true
       record {
         tlbhigh = held .tlbhigh;
         tlblow = held .tlblow;
-        replacement = held .replacement;
         rom = held .rom;
         frames = held .frames;
         staying = λ _. held .staying user;
@@ -124,7 +124,6 @@ module _ (start m : Machine) (held : Held start m) (user : inUserMode m ≡ true
       record {
         tlbhigh = held .tlbhigh;
         tlblow = held .tlblow;
-        replacement = held .replacement;
         rom = store-rom (accessWidth width) (m .memory) physical v ∙ held .rom;
         frames = stored width physical v u;
         staying = λ _. held .staying user;
@@ -134,7 +133,6 @@ module _ (start m : Machine) (held : Held start m) (user : inUserMode m ≡ true
       record {
         tlbhigh = held .tlbhigh;
         tlblow = held .tlblow;
-        replacement = held .replacement;
         rom = held .rom;
         frames = held .frames;
         staying = λ yes. absurd (true≢false (sym yes ∙ pushed-kernel (m .processor .psw) eid));
@@ -231,7 +229,7 @@ module _ (q : Processor) (m n : Machine) (alike : Alike q m n)
   unfolding stepOf
   step-alike =
       record {
-        processor = ap₂ processorAfter (alike .processor) look-alike;
+        processor = ap indexMoved (ap₂ processorAfter (alike .processor) look-alike);
         timer = ap ticked (timer-alike (m .timer) (Reached q) (m .memory) (n .memory) (alike .frames) (look m lines)
             ∙ ap₂ (λ (t : Timer) (a : Action). timerDone t (n .memory) a) (alike .timer) look-alike);
         frames = subst (λ (a : Action). SameIn (Reached q) (memoryDone (m .memory) (look m lines)) (memoryDone (n .memory) a)) look-alike

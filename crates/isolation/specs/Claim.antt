@@ -1,11 +1,13 @@
--- What isolation says of a list of runs (document 01, "Runs and views", last three paragraphs; document 02, job 1; demand 3).
+-- What isolation says of a list of runs (document 01, "Runs and views", last three paragraphs; document 02, jobs 1 and 4; demand 3).
 use mathlib.Core.Path.{_≡_}
 use mathlib.Core.Bool.{true, false}
 use mathlib.Core.List.{List, [], _∷_}
 use Prim.Native.Nat.{ℕ, suc}
 use Rattle.timer.specs.Timer.{ticks}
 use Rattle.processor.specs.declared.Processor.{Processor}
+use Rattle.tlb.specs.Lookup.{replacementAfter}
 use Rattle.processor.specs.Exception.{entered}
+use Rattle.processor.specs.Tlb.{indexMoved}
 use Rattle.instructions.specs.Action.{Exception}
 use Rattle.machine.specs.Machine.{Machine, Representable}
 use Rattle.step.specs.Step.{look, stepOf}
@@ -37,20 +39,19 @@ specialsOf p =
 pub record Held (start m : Machine) : Type 0 where
   pub tlbhigh : m .processor .tlbhigh ≡ start .processor .tlbhigh
   pub tlblow : m .processor .tlblow ≡ start .processor .tlblow
-  pub replacement : m .processor .replacement ≡ start .processor .replacement
   pub rom : m .memory .rom ≡ start .memory .rom
   pub frames : SameIn (λ frame. ReachedWritable (start .processor) frame → ⊥) (m .memory) (start .memory)
   pub staying : inUserMode m ≡ true → specialsOf (m .processor) ≡ specialsOf (start .processor)
 
 -- the leaving step: the machine before it was in User Mode with the start's special registers, it named an exception, and they are what entry
--- makes of them
+-- makes of them; of the rest of the processor, entry and the move of the replacement index make what there is
 pub record Left (start before : Machine) (s : Made) : Type 0 where
   pub eid : ℕ
   pub address : ℕ
   pub user : inUserMode before ≡ true
   pub kept : specialsOf (before .processor) ≡ specialsOf (start .processor)
   pub named : look before (s .lines) ≡ Exception eid address
-  pub processor : s .machine .processor ≡ entered (before .processor) eid address
+  pub processor : s .machine .processor ≡ indexMoved (entered (before .processor) eid address)
   pub specials : specialsOf (s .machine .processor) ≡ specialsOf (entered (start .processor) eid address)
 
 -- a step of the trace, from the machine before it
@@ -69,10 +70,12 @@ abbrev pub Numbered : (ℕ → Made → Type 0) → ℕ → List Made → Type 0
 Numbered P n [] = Unit {0}
 Numbered P n (s ∷ ss) = P n s × Numbered P (suc n) ss
 
--- and, unless the timer can be written, after the first step, the second and so on the timer is the start's, ticked once, twice and so on: it
--- ticks by itself, and User Mode has not changed it
+-- after the first step, the second and so on the replacement index is the start's, moved once, twice and so on, whatever the steps do. And so is the
+-- timer, ticked, unless it can be written. Both go on by themselves: User Mode has not changed them
 pub record Integrity (calls : List Call) (start : Machine) : Type 0 where
   pub steps : Consecutive (HeldStep start) start (upToLeaving (traceOf calls start))
+  pub index : Numbered (λ n s. s .machine .processor .replacement ≡ replacementAfter n (start .processor .replacement)) 1
+      (upToLeaving (traceOf calls start))
   pub timer : TimerNotWritable (start .processor)
       → Numbered (λ n s. s .machine .timer ≡ ticks n (start .timer)) 1 (upToLeaving (traceOf calls start))
 

@@ -2,6 +2,7 @@
 mod compare;
 
 use processor::Processor;
+use processor::Words;
 use run_loop::Ran;
 use timer::Timer;
 ghost use mathlib.Core.Path.{_≡_};
@@ -14,13 +15,15 @@ ghost use Rattle.run_loop.specs.Run.{answer, outcome};
 ghost use Rattle.record.specs.Calls.{readRefusal, processorRead, timerRead, writeRefusal, bufferAfter};
 ghost use Rattle.machines.specs.Unchanged.{sameState, sameMachine, ran};
 
-// What a run answers; whether the machine is unchanged; and register 1 after it.
+// What a run answers; whether the machine is unchanged; and after it register 1, the replacement index and the high words of the TLB.
 pub struct Outcome {
     pub refusal: u32,
     pub steps: u32,
     pub eid: u32,
     pub unchanged: bool,
     pub register: u32,
+    pub replacement: u32,
+    pub highs: Words,
 }
 
 // What reading a record answers; whether processor and timer are the given ones, and whether they are the reset machine's.
@@ -70,11 +73,14 @@ pub fn run(
     ensures unchanged { λ r. ⌜ r .unchanged
         ≡ sameMachine p timer (now (ramcopy .entry)) (now (beltcopy .entry)) (ran kind (before p timer ram rom belt) wanted .machine) ⌝ }
     ensures register { λ r. ⌜ r .register ≡ getD (ran kind (before p timer ram rom belt) wanted .machine .processor .registers) 1 0 ⌝ }
+    ensures replacement { λ r. ⌜ r .replacement ≡ ran kind (before p timer ram rom belt) wanted .machine .processor .replacement ⌝ }
+    ensures highs { λ r. ⌜ r .highs ≡ ran kind (before p timer ram rom belt) wanted .machine .processor .tlbhigh ⌝ }
 {
     let ran = run_of_kind(kind, p, timer, ram, rom, belt, wanted);
     let next = ran.processor;
     let ticked = ran.timer;
     let registers = next.registers;
+    let highs = next.tlbhigh;
     let state = compare::same_state(p, timer, next, ticked);
     let memory = compare::same_memory(ramcopy, beltcopy, &ram[..], &belt[..]);
     Outcome {
@@ -83,6 +89,8 @@ pub fn run(
         eid: ran.eid,
         unchanged: state & memory,
         register: registers[1],
+        replacement: next.replacement,
+        highs: highs,
     }
 }
 

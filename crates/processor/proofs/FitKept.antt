@@ -15,11 +15,12 @@ use Rattle.status.proofs.PswLaws.{pushed-lt, popped-lt}
 use Rattle.kept_bits.specs.Kept.{onlyFrom, keptPsw, keptIndex, keptHigh, keptLow}
 use Rattle.kept_bits.proofs.KeptLaws.{psw-kept, psw-again, index-again, index-kept, index-none, high-again, low-again}
 use Rattle.kept_bits.proofs.OnlyLaws.{Only, set-only}
-use Rattle.tlb.specs.Lookup.{lookup, pageOf, nextReplacement, foundIndex}
-use Rattle.processor.specs.State.{atReset, fit, withRegisters, withPc, withSpecials, withTlb}
+use Rattle.tlb.specs.Lookup.{lookup, pageOf, foundIndex}
+use Rattle.processor.specs.State.{atReset, fit, withRegisters, withPc, withSpecials, withTlb, withReplacement}
 use Rattle.processor.specs.Exception.{entered, returned}
 use Rattle.processor.specs.Register.{put, written, jumped, specialWritten}
-use Rattle.processor.specs.Tlb.{entryWritten, indexedWritten, randomWritten, entryRead, searched}
+use Rattle.processor.specs.Tlb.{entryWritten, indexedWritten, randomWritten, indexMoved, entryRead, searched}
+use Rattle.tlb.proofs.Replacement.{index-range}
 use Rattle.processor.specs.declared.Processor.{Processor}
 use Rattle.processor.proofs.FitLaws.{Fit, fits}
 
@@ -44,9 +45,11 @@ pub specials-fit : {p : Processor} → Fit p → {psw index high low bad : ℕ}
     → Fit (withSpecials p psw index high low bad)
 specials-fit f psw index high low = fits (f .zeroed) (f .from) (f .upto) psw index high low (f .highs) (f .lows)
 
-pub tlb-fit : {p : Processor} → Fit p → {highs lows : List ℕ} {replacement : ℕ} → Only keptHigh highs → Only keptLow lows
-    → 4 ≤ replacement → replacement ≤ 31 → Fit (withTlb p highs lows replacement)
-tlb-fit f highs lows from upto = fits (f .zeroed) from upto (f .psw) (f .index) (f .high) (f .low) highs lows
+pub tlb-fit : {p : Processor} → Fit p → {highs lows : List ℕ} → Only keptHigh highs → Only keptLow lows → Fit (withTlb p highs lows)
+tlb-fit f highs lows = fits (f .zeroed) (f .from) (f .upto) (f .psw) (f .index) (f .high) (f .low) highs lows
+
+pub index-fit : {p : Processor} → Fit p → {replacement : ℕ} → 4 ≤ replacement → replacement ≤ 31 → Fit (withReplacement p replacement)
+index-fit f from upto = fits (f .zeroed) from upto (f .psw) (f .index) (f .high) (f .low) (f .highs) (f .lows)
 
 -- ---- the operations
 
@@ -83,26 +86,23 @@ module _ (p : Processor) (f : Fit p) where
       specials-fit f (either keptPsw (eqb z 0) (psw-again v) (f .psw)) (either keptIndex (eqb z 1) (index-again v) (f .index))
       (either keptHigh (eqb z 2) (high-again v) (f .high)) (either keptLow (eqb z 3) (low-again v) (f .low))
 
-  entry-fit : (i r : ℕ) → 4 ≤ r → r ≤ 31 → Fit (entryWritten p i r)
+  entry-fit : (i : ℕ) → Fit (entryWritten p i)
   unfolding entryWritten
-  entry-fit i r =
+  entry-fit i =
       tlb-fit f (set-only keptHigh (p .tlbhigh) (i % 32) (p .entryhigh) (f .high) (f .highs))
       (set-only keptLow (p .tlblow) (i % 32) (p .entrylow) (f .low) (f .lows))
 
   pub indexed-fit : Fit (indexedWritten p)
   unfolding indexedWritten
-  indexed-fit = entry-fit (p .index) (p .replacement) (f .from) (f .upto)
-
-  moved : (4 ≤ nextReplacement (p .replacement)) × (nextReplacement (p .replacement) ≤ 31)
-  unfolding nextReplacement
-  moved =
-      below-or-not (p .replacement) 31
-      (λ h. rw (lt-ltb _ _ h) (omega (arith, f .from), omega arith))
-      (λ h. rw (le-ltb _ _ h) (omega arith, omega arith))
+  indexed-fit = entry-fit (p .index)
 
   pub random-fit : Fit (randomWritten p)
   unfolding randomWritten
-  random-fit = entry-fit (p .replacement) (nextReplacement (p .replacement)) (moved .0) (moved .1)
+  random-fit = entry-fit (p .replacement)
+
+  -- the index moves within 4..31
+  pub moved-fit : Fit (indexMoved p)
+  moved-fit = let (from, upto) = index-range (p .replacement) (f .from) in index-fit f from upto
 
   pub read-fit : Fit (entryRead p)
   unfolding entryRead

@@ -54,10 +54,14 @@ withPc p pc =
 abbrev pub withSpecials : Processor → ℕ → ℕ → ℕ → ℕ → ℕ → Processor
 withSpecials p psw index high low bad = stateOf (p .registers) (p .pc) psw index high low bad (p .tlbhigh) (p .tlblow) (p .replacement)
 
--- the high words and the low words of the TLB, and the replacement index
-abbrev pub withTlb : Processor → List ℕ → List ℕ → ℕ → Processor
-withTlb p highs lows replacement =
-    stateOf (p .registers) (p .pc) (p .psw) (p .index) (p .entryhigh) (p .entrylow) (p .badaddress) highs lows replacement
+-- the high words and the low words of the TLB
+abbrev pub withTlb : Processor → List ℕ → List ℕ → Processor
+withTlb p highs lows =
+    stateOf (p .registers) (p .pc) (p .psw) (p .index) (p .entryhigh) (p .entrylow) (p .badaddress) highs lows (p .replacement)
+
+abbrev pub withReplacement : Processor → ℕ → Processor
+withReplacement p replacement =
+    stateOf (p .registers) (p .pc) (p .psw) (p .index) (p .entryhigh) (p .entrylow) (p .badaddress) (p .tlbhigh) (p .tlblow) replacement
 
 -- ---- which states are fit
 

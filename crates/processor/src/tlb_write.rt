@@ -5,8 +5,8 @@ ghost use Rattle.processor.specs.Tlb.{entryWritten, indexedWritten, rand
 
 impl Processor {
     // A TLB entry, from Entry High and Entry Low.
-    fn write_entry(mut self, i: usize, replacement: u32) -> Self
-        ensures { λ r. ⌜ r ≡ entryWritten self i replacement ⌝ }
+    fn write_entry(mut self, i: usize) -> Self
+        ensures { λ r. ⌜ r ≡ entryWritten self i ⌝ }
     {
         let n = i % 32;
         let mut tlbhigh = self.tlbhigh;
@@ -15,7 +15,6 @@ impl Processor {
         let mut tlblow = self.tlblow;
         tlblow[n] = self.entrylow;
         self.tlblow = tlblow;
-        self.replacement = replacement;
         self
     }
 
@@ -23,16 +22,13 @@ impl Processor {
     pub fn write_indexed(self) -> Self
         ensures { λ r. ⌜ r ≡ indexedWritten self ⌝ }
     {
-        self.write_entry(self.index as usize, self.replacement)
+        self.write_entry(self.index as usize)
     }
 
-    // TBWR.
+    // TBWR. The step moves the replacement index, and this does not.
     pub fn write_random(self) -> Self
         ensures { λ r. ⌜ r ≡ randomWritten self ⌝ }
     {
-        self.write_entry(
-            self.replacement as usize,
-            tlb::next_replacement(self.replacement),
-        )
+        self.write_entry(self.replacement as usize)
     }
 }

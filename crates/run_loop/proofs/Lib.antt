@@ -2,4 +2,5 @@
 pub mod Loop
 mod Turn
 pub mod Kept
+pub mod Index
 mod OneStep

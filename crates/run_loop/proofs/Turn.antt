@@ -3,6 +3,7 @@ use mathlib.Core.Path.{_≡_, refl, ap, sym, subst, _∙_}
 use mathlib.Core.Bool.{Bool, true, false, cond}
 use mathlib.Core.List.{List, [], _∷_}
 use Prim.Native.Nat.{ℕ, zero, suc, _+_, _-_, _%_, _<_}
+use native.Mathlib.Numerals.{add-one}
 use native.Mathlib.Omega.{arith}
 use lib.Dec.{leb}
 use lib.ListN.{length, getD, set}
@@ -11,20 +12,23 @@ use Rattle.tlb.specs.Found.{Serves}
 use Rattle.tlb.specs.declared.Found.{Found}
 use Rattle.instructions.specs.Action.{Action, Exception}
 use Rattle.processor.specs.declared.Processor.{Processor}
-use Rattle.processor.specs.State.{withRegisters, withPc}
+use Rattle.processor.specs.State.{withRegisters, withPc, withReplacement}
 use Rattle.processor.specs.Exception.{entered}
 use Rattle.processor.specs.Register.{put, written, jumped}
-use Rattle.tlb.specs.Lookup.{pageOf, lookup}
+use Rattle.processor.specs.Tlb.{indexMoved}
+use Rattle.actions.specs.Actions.{processorAfter}
+use Rattle.tlb.specs.Lookup.{pageOf, lookup, replacementAfter}
 use Rattle.timer.specs.Timer.{linesWith}
 use Rattle.machine.specs.Machine.{Machine}
 use Rattle.look.specs.Look.{lookFrom}
 use Rattle.step.specs.Step.{surroundingsOf, look, done, eidOf, stepOf}
 use Rattle.step.proofs.Looks.{step-done, step-eid}
 use Rattle.step.proofs.Named.{named-below}
-use Rattle.run_loop.specs.Run.{Request, outcome, ends, runFrom}
+use Rattle.step.proofs.IndexLaws.{action-leaves}
+use Rattle.run_loop.specs.Run.{indexed, Request, outcome, ends, runFrom}
 use Rattle.run_loop.proofs.Loop.{exception-ends, run-more, run-stop}
 
--- ---- the processor
+-- ---- registers
 
 -- a write to register 0 is a jump
 pub zero-written : (p : Processor) (n v next : ℕ) → n % 32 ≡ 0 → jumped p next ≡ written p n v next
@@ -42,12 +46,42 @@ put-again : (l : List ℕ) (n v value : ℕ) → (n % 32 ≡ 0 → ⊥) → valu
 unfolding put
 put-again l n v value other e = rw (e, ne-eqb (n % 32) 0 other) (set-again l (n % 32) v)
 
--- a processor that takes over the register and the PC of a write to it is the one that the write hands back
-pub taken : (p : Processor) (n v next value pc : ℕ) → (n % 32 ≡ 0 → ⊥)
-    → value ≡ getD (written p n v next .registers) (n % 32) 0 → pc ≡ written p n v next .pc
-    → withPc (withRegisters p (set (p .registers) (n % 32) value)) pc ≡ written p n v next
-unfolding written
-taken p n v next value pc other e f = λ i. withPc (withRegisters p (put-again (p .registers) n v value other e i)) (f i)
+-- ---- the replacement index: the loop leaves an old one in the processor, and reckons it by the steps made
+
+module _ (first made : ℕ) where
+  -- an action done but for the index, and then the step's move
+  moves-on : (q r : Processor) → indexed first made q ≡ r → indexed first (made + 1) q ≡ indexMoved r
+  unfolding replacementAfter
+  moves-on q r e = ap (λ (n : ℕ). indexed first n q) (add-one made) ∙ ap indexMoved e
+
+  -- a jump, a write and exception entry go past the index
+  module _ (p q : Processor) where
+    pub jumps : (next : ℕ) → q ≡ jumped p next → indexed first (made + 1) q ≡ indexMoved (jumped (indexed first made p) next)
+    unfolding jumped
+    jumps next e = moves-on q _ (ap (indexed first made) e)
+
+    pub enters : (eid address : ℕ) → q ≡ entered p eid address
+        → indexed first (made + 1) q ≡ indexMoved (entered (indexed first made p) eid address)
+    unfolding entered
+    enters eid address e = moves-on q _ (ap (indexed first made) e)
+
+    -- a system instruction sees it, and leaves it
+    pub leaves : (a : Action) → p .replacement ≡ replacementAfter made first → q ≡ processorAfter p a
+        → indexed first (made + 1) q ≡ indexMoved (processorAfter (indexed first made p) a)
+    leaves a e f =
+        let same : q ≡ processorAfter (indexed first made p) a = f ∙ ap (λ (k : ℕ). processorAfter (withReplacement p k) a) e in
+        let index : q .replacement ≡ replacementAfter made first =
+        ap (λ (r : Processor). r .replacement) same ∙ action-leaves (indexed first made p) a in
+        moves-on q _ (ap (withReplacement q) (sym index) ∙ same)
+
+  -- a processor that takes over the register and the PC of a write to it is the one that the write hands back
+  pub taken : (p : Processor) (n v next value pc : ℕ) → (n % 32 ≡ 0 → ⊥)
+      → value ≡ getD (written p n v next .registers) (n % 32) 0 → pc ≡ written p n v next .pc
+      → indexed first (made + 1) (withPc (withRegisters p (set (p .registers) (n % 32) value)) pc) ≡ indexMoved (written (indexed first made p) n v next)
+  unfolding written
+  taken p n v next value pc other e f =
+      moves-on (withPc (withRegisters p (set (p .registers) (n % 32) value)) pc) _
+      (λ i. withPc (withRegisters (indexed first made p) (put-again (p .registers) n v value other e i)) (f i))
 
 -- an entry that was found stays where it is: a jump and exception entry leave the TLB
 module _ (p : Processor) (i page : ℕ) (f : i ≡ lookup (p .tlbhigh) page) (q : Processor) where

@@ -4,6 +4,9 @@ use mathlib.Core.List.{List, [], _∷_}
 use Prim.Native.Nat.{ℕ, zero, suc}
 use lib.Dec.{ltb, eqb}
 use Rattle.words.specs.Logic.{both}
+use Rattle.tlb.specs.Lookup.{replacementAfter}
+use Rattle.processor.specs.declared.Processor.{Processor}
+use Rattle.processor.specs.State.{withReplacement}
 use Rattle.machine.specs.Machine.{Machine}
 use Rattle.words.specs.Identifiers.{noException}
 use Rattle.step.specs.Step.{Stepped, stepOf}
@@ -82,6 +85,10 @@ unfoldable pub runOf : Request → Machine → Outcome
 runOf q m = countedAll q (refused m (runRefusal m (q .wanted))) (stepsOf q m)
 
 -- ---- as the loop makes it
+
+-- a processor with the replacement index of so many steps after a first one: the loop does without it
+abbrev pub indexed : ℕ → ℕ → Processor → Processor
+indexed first made p = withReplacement p (replacementAfter made first)
 
 -- n more steps at most, after those made
 unfoldable pub runFrom : Request → ℕ → ℕ → Machine → Outcome

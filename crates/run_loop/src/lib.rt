@@ -5,7 +5,7 @@ use timer::Timer;
 ghost use mathlib.Core.Path.{_≡_};
 ghost use Rattle.machine.specs.Machine.{before, after};
 ghost use Rattle.step.specs.Step.{stepped, stepOf};
-ghost use Rattle.run_loop.specs.Run.{request, outcome, runFrom};
+ghost use Rattle.run_loop.specs.Run.{indexed, request, outcome, runFrom};
 
 // The processor and the timer after a run; the refusal or 0, the steps made, and the exception that ended it, or 32.
 pub struct Ran {
@@ -16,8 +16,9 @@ pub struct Ran {
     pub eid: u32,
 }
 
-// The steps of an accepted run. `kind` says whether an accepted exception ends it.
-pub fn advance(
+// The steps of an accepted run, but for the replacement index: `kind` says whether an accepted exception ends it. The processor keeps an old
+// index, and where it is asked for, the run's first one and the steps made give it.
+fn turns(
     p: Processor,
     timer: Timer,
     ram: &mut [u8],
@@ -27,11 +28,12 @@ pub fn advance(
     lines: u32,
     kind: bool,
 ) -> Ran
-    ensures { λ r. ⌜ outcome (after (r .processor) (r .timer) ram rom belt) (r .refusal) (r .steps) (r .eid)
+    ensures { λ r. ⌜ outcome (after (indexed (p .replacement) (r .steps) (r .processor)) (r .timer) ram rom belt) (r .refusal) (r .steps) (r .eid)
         ≡ runFrom (request kind wanted lines) wanted 0 (before p timer ram rom belt) ⌝ }
 {
     let mut state = p;
     let mut ticking = timer;
+    let first = p.replacement;
     let mut last = tlb::first(&state.tlbhigh);
     let mut steps = 0;
     let mut eid = Processor::NO_EXCEPTION;
@@ -53,6 +55,7 @@ pub fn advance(
             &belt[..],
             former.lines(lines),
         );
+        let made = steps;
         steps += 1;
         match action {
             Coded::Write(n, v, next) => {
@@ -81,6 +84,7 @@ pub fn advance(
             | Coded::Tbwr(_, _, _)
             | Coded::Tbri(_, _, _)
             | Coded::Tbwi(_, _, _) => {
+                state.replacement = tlb::replacement_after(made, first);
                 state = actions::done(state, action);
                 last = tlb::first(&state.tlbhigh);
             }
@@ -99,6 +103,33 @@ pub fn advance(
         refusal: 0,
         steps: steps,
         eid: eid,
+    }
+}
+
+// An accepted run. Its replacement index follows the steps made.
+pub fn advance(
+    p: Processor,
+    timer: Timer,
+    ram: &mut [u8],
+    rom: &[u8],
+    belt: &mut [u8],
+    wanted: u32,
+    lines: u32,
+    kind: bool,
+) -> Ran
+    ensures { λ r. ⌜ outcome (after (r .processor) (r .timer) ram rom belt) (r .refusal) (r .steps) (r .eid)
+        ≡ runFrom (request kind wanted lines) wanted 0 (before p timer ram rom belt) ⌝ }
+{
+    let made = turns(p, timer, ram, rom, belt, wanted, lines, kind);
+    let mut processor = made.processor;
+    processor.replacement = tlb::replacement_after(made.steps, p.replacement);
+    let ticked = made.timer;
+    Ran {
+        processor: processor,
+        timer: ticked,
+        refusal: made.refusal,
+        steps: made.steps,
+        eid: made.eid,
     }
 }
 

@@ -14,19 +14,20 @@ use Rattle.processor.specs.declared.Processor.{Processor}
 use Rattle.processor.specs.State.{atReset, withRegisters, withPc, withSpecials, withTlb}
 use Rattle.processor.specs.Exception.{entered, returned}
 use Rattle.processor.specs.Register.{put, written, jumped, specialList, special, specialWritten}
-use Rattle.tlb.specs.Lookup.{pageOf, lookup, nextReplacement}
+use Rattle.tlb.specs.Lookup.{pageOf, lookup}
 use Rattle.processor.specs.Tlb.{entryWritten, indexedWritten, randomWritten, entryRead, searched}
 use Rattle.status.proofs.PswLaws.{pushed-lt, popped-lt}
 use Rattle.kept_bits.proofs.KeptLaws.{kept-psw-lt, kept-index-lt, kept-high-lt, kept-low-lt}
 use Rattle.processor.proofs.EntryLaws.{service-lt}
 use Rattle.tlb.proofs.Sizes.{replacement-lt, found-lt}
 use Rattle.words.proofs.Every.{_&_, every-at}
-use Rattle.timer.specs.Timer.{timerAtReset, ticked, TimerWords}
+use Rattle.timer.specs.Timer.{timerAtReset, TimerWords}
 use Rattle.timer.specs.declared.Timer.{Timer}
 use Rattle.timer.proofs.Registers.{ticked-words}
 use Rattle.memory.specs.Map.{Memory}
 use Rattle.machine.specs.Machine.{Machine, machine, Words32, Bytes, Representable}
 use Rattle.machine.proofs.Representing.{Word, representable}
+use Rattle.step.specs.Step.{ended}
 
 -- ---- numbers and arrays
 
@@ -76,11 +77,11 @@ specials-kept r psw index high low bad =
     representable (r .registers) (r .pc) psw index high low bad
     (r .tlbhigh) (r .tlblow) (r .replacement) (r .timer) (r .ram) (r .rom) (r .belt)
 
-tlb-kept : {m : Machine} → Representable m → {highs lows : List ℕ} {replacement : ℕ} → Words32 highs → Words32 lows → Word replacement
-    → Representable (having m (withTlb (m .processor) highs lows replacement))
-tlb-kept r highs lows replacement =
+tlb-kept : {m : Machine} → Representable m → {highs lows : List ℕ} → Words32 highs → Words32 lows
+    → Representable (having m (withTlb (m .processor) highs lows))
+tlb-kept r highs lows =
     representable (r .registers) (r .pc) (r .psw) (r .index) (r .entryhigh) (r .entrylow) (r .badaddress)
-    highs lows replacement (r .timer) (r .ram) (r .rom) (r .belt)
+    highs lows (r .replacement) (r .timer) (r .ram) (r .rom) (r .belt)
 
 -- another timer and another memory
 pub around-kept : {m : Machine} → Representable m → {t : Timer} → TimerWords t → {n : Memory} → Bytes (n .ram) → Bytes (n .rom) → Bytes (n .belt)
@@ -89,9 +90,11 @@ around-kept r t ram rom belt =
     representable (r .registers) (r .pc) (r .psw) (r .index) (r .entryhigh) (r .entrylow) (r .badaddress)
     (r .tlbhigh) (r .tlblow) (r .replacement) t ram rom belt
 
--- a tick
-pub tick-kept : {m : Machine} → Representable m → Representable (record { processor = m .processor; timer = ticked (m .timer); memory = m .memory })
-tick-kept {m} r = around-kept r (ticked-words (m .timer) (r .timer)) (r .ram) (r .rom) (r .belt)
+-- the end of a step
+pub end-kept : {m : Machine} → Representable m → Representable (ended m)
+end-kept {m} r =
+    representable (r .registers) (r .pc) (r .psw) (r .index) (r .entryhigh) (r .entrylow) (r .badaddress)
+    (r .tlbhigh) (r .tlblow) (replacement-lt (m .processor .replacement)) (ticked-words (m .timer) (r .timer)) (r .ram) (r .rom) (r .belt)
 
 -- ---- the operations
 
@@ -132,19 +135,19 @@ module _ (m : Machine) (r : Representable m) where
       (chosen Word (eqb z 2) (kept-high-lt v h) (r .entryhigh)) (chosen Word (eqb z 3) (kept-low-lt v h) (r .entrylow))
       (chosen Word (eqb z 4) h (r .badaddress))
 
-  entry-representable : (i replacement : ℕ) → replacement < 2 ^ 32 → Representable (having m (entryWritten p i replacement))
+  entry-representable : (i : ℕ) → Representable (having m (entryWritten p i))
   unfolding entryWritten
-  entry-representable i replacement =
+  entry-representable i =
       tlb-kept r (set-words (p .tlbhigh) (i % 32) (p .entryhigh) (omega arith) (r .entryhigh) (r .tlbhigh))
       (set-words (p .tlblow) (i % 32) (p .entrylow) (omega arith) (r .entrylow) (r .tlblow))
 
   pub indexed-representable : Representable (having m (indexedWritten p))
   unfolding indexedWritten
-  indexed-representable = entry-representable (p .index) (p .replacement) (r .replacement)
+  indexed-representable = entry-representable (p .index)
 
   pub random-representable : Representable (having m (randomWritten p))
   unfolding randomWritten
-  random-representable = entry-representable (p .replacement) (nextReplacement (p .replacement)) (replacement-lt (p .replacement))
+  random-representable = entry-representable (p .replacement)
 
   pub read-representable : Representable (having m (entryRead p))
   unfolding entryRead

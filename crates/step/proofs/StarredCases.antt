@@ -64,7 +64,7 @@ register i p = getD (p .registers) i 0
 
 -- from reset, with an address in R1, and TLB entry 7 given
 abbrev withEntry : ℕ → ℕ → ℕ → Processor
-withEntry address high low = withTlb (withTwo 0 0 1 address) (set (atReset .tlbhigh) 7 high) (set (atReset .tlblow) 7 low) 4
+withEntry address high low = withTlb (withTwo 0 0 1 address) (set (atReset .tlbhigh) 7 high) (set (atReset .tlblow) 7 low)
 
 -- a step of a word in RAM with a PSW of User Mode, through TLB entry 7: page 00000 to frame 00000, valid
 abbrev userStep : ℕ → ℕ → ℕ → Stepped

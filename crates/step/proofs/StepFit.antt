@@ -10,6 +10,7 @@ use Rattle.processor.specs.declared.Processor.{Processor}
 use Rattle.processor.specs.Register.{special}
 use Rattle.processor.proofs.FitLaws.{Fit}
 use Rattle.processor.proofs.FitKept.{entered-fit, returned-fit, written-fit, jumped-fit, special-fit, indexed-fit, random-fit, read-fit, searched-fit}
+use Rattle.processor.proofs.FitKept.{moved-fit}
 use Rattle.instructions.specs.Action.{Action, Write, Store, System, Exception, SystemInstruction, Rfx, Mvfs, Mvts, Tbs, Tbwr, Tbri, Tbwi}
 use Rattle.machine.specs.Machine.{Machine}
 use Rattle.actions.specs.Actions.{processorAfter, onward, systemDone}
@@ -34,7 +35,7 @@ module _ (p : Processor) (f : Fit p) where
 
 pub step-fit : (m : Machine) (lines : ℕ) → Fit (m .processor) → Fit (stepOf m lines .machine .processor)
 unfolding stepOf
-step-fit m lines f = after-fit (m .processor) f (look m lines)
+step-fit m lines f = moved-fit _ (after-fit (m .processor) f (look m lines))
 
 timer-done-fits : (t : Timer) (m : Memory) → t .control ≤ 3 → (a : Action) → timerDone t m a .control ≤ 3
 timer-done-fits t m h (Write n v next) = h

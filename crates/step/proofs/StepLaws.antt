@@ -1,9 +1,9 @@
--- An interrupt comes before any fetch, nothing is named before the fetch otherwise, and a fault leaves only entry and the tick.
+-- An interrupt comes before any fetch, nothing is named before the fetch otherwise, and a fault leaves only entry and what every step does.
 use mathlib.Core.Path.{_≡_, refl, _∙_}
 use Prim.Native.Nat.{ℕ, _≤_, _<_}
 use native.Mathlib.Omega.{arith}
 use borrow.Author.Tests.{lt-ltb, le-ltb}
-use Rattle.timer.specs.Timer.{linesWith, ticked}
+use Rattle.timer.specs.Timer.{linesWith}
 use Rattle.processor.specs.Exception.{entered}
 use Rattle.look.specs.Interrupt.{channel}
 use Rattle.access.specs.Reads.{readFrom, readEid}
@@ -12,7 +12,7 @@ use Rattle.access.specs.declared.Read.the-variants.{Value, Fault}
 use Rattle.instructions.specs.Action.{Exception}
 use Rattle.machine.specs.Machine.{Machine}
 use Rattle.look.specs.Look.{decoded, lookFrom}
-use Rattle.step.specs.Step.{surroundingsOf, look, eidOf, stepOf}
+use Rattle.step.specs.Step.{surroundingsOf, look, ended, eidOf, stepOf}
 use Rattle.step.proofs.Looks.{step-done, step-eid}
 
 -- ---- an exception is named for an interrupt that is due, or after a fetch
@@ -37,9 +37,9 @@ module _ (m : Machine) (lines : ℕ) where
       go (Value word) l = absurd (omega (arith, l))
       go (Fault eid) l = refl
 
-  -- ---- a fault leaves only the effects of exception entry and the tick, and is named
+  -- ---- a fault leaves only the effects of exception entry and what every step does, and is named
   pub fault-enters : (eid address : ℕ) → look m lines ≡ Exception eid address
-      → stepOf m lines .machine ≡ record { processor = entered (m .processor) eid address; timer = ticked (m .timer); memory = m .memory }
+      → stepOf m lines .machine ≡ ended (record { processor = entered (m .processor) eid address; timer = m .timer; memory = m .memory })
   fault-enters eid address e = step-done m lines (Exception eid address) e
 
   pub fault-named : (eid address : ℕ) → look m lines ≡ Exception eid address → stepOf m lines .event .eid ≡ eid

@@ -10,7 +10,6 @@ use Rattle.words.proofs.Cases.{chosen, below-or-not}
 use Rattle.sums.proofs.Sizes.{sum-lt}
 use Rattle.memory.specs.Access.{accessWidth, memoryAfter}
 use Rattle.timer.specs.Timer.{linesWith}
-use Rattle.timer.proofs.Registers.{ticked-words}
 use Rattle.memory.proofs.Bytewise.{Bytewise, store-bytewise, store-words}
 use Rattle.processor.specs.declared.Processor.{Processor}
 use Rattle.processor.specs.Register.{special}
@@ -27,7 +26,7 @@ use Rattle.machine.specs.Machine.{Machine, Bytes, Representable}
 use Rattle.look.specs.Look.{operandsOf, decoded, lookFrom}
 use Rattle.actions.specs.Actions.{onward, systemDone}
 use Rattle.step.specs.Step.{surroundingsOf, look, done, stepOf}
-use Rattle.step.proofs.RepresentableKept.{having, around-kept, tick-kept, special-lt, entered-representable, returned-representable}
+use Rattle.step.proofs.RepresentableKept.{having, around-kept, end-kept, special-lt, entered-representable, returned-representable}
 use Rattle.step.proofs.RepresentableKept.{written-representable, jumped-representable, special-representable, indexed-representable}
 use Rattle.step.proofs.RepresentableKept.{random-representable, read-representable, searched-representable}
 
@@ -84,14 +83,15 @@ module _ (m : Machine) (r : Representable m) where
   system-representable Tbwi h = indexed-representable (having m (onward p)) moved
 
   done-representable : (a : Action) → Small a → Representable (done m a)
-  done-representable (Write n v next) h = tick-kept (written-representable m r n v next (h .0) (h .1))
+  done-representable (Write n v next) h = end-kept (written-representable m r n v next (h .0) (h .1))
   done-representable (Store width physical v) h =
       let b : Bytewise (memoryAfter (accessWidth width) (m .memory) physical v) =
       store-bytewise (accessWidth width) (m .memory) (lent m r) physical v in
-      around-kept moved (ticked-words _ (store-words (accessWidth width) (m .timer) (r .timer) (m .memory) physical v))
-      (λ i k. b .ram i) (λ i k. b .rom i) (λ i k. b .belt i)
-  done-representable (System i) h = tick-kept (system-representable i h)
-  done-representable (Exception eid address) h = tick-kept (entered-representable m r eid address h)
+      end-kept
+      (around-kept moved (store-words (accessWidth width) (m .timer) (r .timer) (m .memory) physical v)
+      (λ i k. b .ram i) (λ i k. b .rom i) (λ i k. b .belt i))
+  done-representable (System i) h = end-kept (system-representable i h)
+  done-representable (Exception eid address) h = end-kept (entered-representable m r eid address h)
 
 -- ---- the step
 

@@ -1,11 +1,12 @@
--- One step (document 01, "One step"; manual, 3.2): a look, which changes nothing and names an action, then the action, then one tick of the timer
--- (document 02, job 1).
+-- One step (document 01, "One step"; manual, 3.2): a look, which changes nothing and names an action, then the action, then what every step does
+-- (document 02, jobs 1 and 4).
 use Prim.Native.Nat.{ℕ}
 use Rattle.memory.specs.Map.{Memory}
 use Rattle.memory.specs.Access.{accessWidth, memoryAfter, timerAfter}
 use Rattle.timer.specs.Timer.{linesWith, ticked}
 use Rattle.timer.specs.declared.Timer.{Timer}
 use Rattle.words.specs.Identifiers.{noException}
+use Rattle.processor.specs.Tlb.{indexMoved}
 use Rattle.instructions.specs.Operands.{Surroundings, surroundings}
 use Rattle.instructions.specs.Action.{Action, Write, Store, System, Exception}
 use Rattle.look.specs.Look.{lookFrom}
@@ -42,14 +43,20 @@ eidOf (Store width physical v) = noException
 eidOf (System i) = noException
 eidOf (Exception eid address) = eid
 
--- the tick comes last, after an exception too
-abbrev pub done : Machine → Action → Machine
-done m a =
+abbrev pub acted : Machine → Action → Machine
+acted m a =
     record {
       processor = processorAfter (m .processor) a;
-      timer = ticked (timerDone (m .timer) (m .memory) a);
+      timer = timerDone (m .timer) (m .memory) a;
       memory = memoryDone (m .memory) a;
     }
+
+-- what every step does at its end, after an exception too: the replacement index moves, and the timer ticks
+abbrev pub ended : Machine → Machine
+ended m = record { processor = indexMoved (m .processor); timer = ticked (m .timer); memory = m .memory }
+
+abbrev pub done : Machine → Action → Machine
+done m a = ended (acted m a)
 
 -- ---- the step
 

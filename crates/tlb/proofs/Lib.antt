@@ -1,4 +1,5 @@
 -- The laws of `tlb`.
 pub mod Sizes
+pub mod Replacement
 pub mod Loop
 pub mod Lowest

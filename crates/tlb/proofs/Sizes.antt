@@ -1,4 +1,4 @@
--- The index that TBS answers and the index that TBWR moves to are words.
+-- The index that TBS answers and the replacement index are words.
 use Prim.Native.Nat.{ℕ, _+_, _^_, _<_}
 use native.Mathlib.Omega.{arith}
 use borrow.Author.Tests.{lt-ltb, le-ltb}

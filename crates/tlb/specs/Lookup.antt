@@ -1,5 +1,5 @@
--- The TLB entry of a page, what TBS answers for it, and the index that TBWR moves to (manual, 2.9, 3.6.5 and 3.6.6; document 01,
--- "Closed by us").
+-- The TLB entry of a page, what TBS answers for it, and the replacement index, which goes round by itself (manual, 2.9, 3.6.5 and 3.6.6;
+-- document 01, "Closed by us"; document 02, job 4).
 use mathlib.Core.Bool.{cond}
 use mathlib.Core.List.{List}
 use Prim.Native.Nat.{ℕ, zero, suc, _+_, _/_}
@@ -27,6 +27,11 @@ lookup highs page = findFrom noEntry highs 0 page
 unfoldable pub foundIndex : ℕ → ℕ
 foundIndex i = cond (ltb i noEntry) i 0x80000000
 
--- TBWR's replacement index: up by 1, and from 31 to 4
+-- the replacement index after one step more: up by 1, and from 31 to 4
 unfoldable pub nextReplacement : ℕ → ℕ
 nextReplacement r = cond (ltb r 31) (r + 1) 4
+
+-- after n steps
+unfoldable pub replacementAfter : ℕ → ℕ → ℕ
+replacementAfter zero r = r
+replacementAfter (suc n) r = nextReplacement (replacementAfter n r)

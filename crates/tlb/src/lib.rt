@@ -1,6 +1,6 @@
 // The entry of a page in the TLB, looked up or kept from before, and the replacement index (manual, 2.9, 3.6.5 and 3.6.6).
 ghost use mathlib.Core.Path.{_≡_};
-ghost use Rattle.tlb.specs.Lookup.{noEntry, lookup, foundIndex, nextReplacement, pageOf};
+ghost use Rattle.tlb.specs.Lookup.{noEntry, lookup, foundIndex, replacementAfter, pageOf};
 ghost use mathlib.Core.Bool.{cond};
 ghost use lib.Dec.{leb};
 ghost use lib.ListN.{getD};
@@ -31,13 +31,21 @@ pub fn found_index(i: usize) -> u32
     0x8000_0000
 }
 
-pub fn next_replacement(replacement: u32) -> u32
-    ensures { λ r. ⌜ r ≡ nextReplacement replacement ⌝ }
+// The replacement index some steps later. From 4 on it goes round in 28.
+pub fn replacement_after(steps: u32, replacement: u32) -> u32
+    ensures { λ r. ⌜ r ≡ replacementAfter steps replacement ⌝ }
 {
-    if replacement < 31 {
-        return replacement + 1;
+    if steps == 0 {
+        return replacement;
     }
-    4
+    if 31 <= replacement {
+        return 4 + (steps - 1) % 28;
+    }
+    let room = 32 - replacement;
+    if steps < room {
+        return replacement + steps;
+    }
+    4 + (steps - room) % 28
 }
 
 // The index of an address's page; a direct-mapped address has none.

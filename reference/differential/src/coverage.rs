@@ -86,6 +86,9 @@ fn runs(list: &mut List) {
             list.add("steps of one run", 1, format!("{name} of {steps} steps"));
         }
     }
+    for index in 4..32 {
+        list.add("index at the start", 100, index.to_string());
+    }
     list.all("largest memory", 1, &["used", "passed by one frame"]);
 }
 

@@ -1,20 +1,20 @@
 //! Pairs of machines in User Mode that differ only in frames which no valid
-//! user page reaches, given one list of runs. Their timers are equal (document
-//! 02, job 1).
+//! user page reaches, given one list of runs. Their timers and replacement
+//! indexes are equal (document 02, jobs 1 and 4).
 
 use crate::bench::{Bench, Counts, Difference};
 use crate::frames::{frames, Frame, Part, Reached, TIMER_FRAME};
 use crate::runs::{agree, list, memory, stream, walk, wanted_steps};
 use crate::world::{Call, Outcome, Run, World};
+use eco32_reference::record::REPLACEMENT_AT;
 use eco32_reference::vectors::machines;
 use eco32_reference::vectors::numbers::Numbers;
 use eco32_reference::vectors::scene::Scene;
 use eco32_reference::{read_record, Timer, MAX_STEPS, NO_EXCEPTION};
 
-/// Offsets of the special registers and of the TLB with the replacement index
-/// in the record.
+/// Offsets of the special registers and of the TLB in the record.
 const SPECIALS: std::ops::Range<usize> = 135..155;
-const TLB: std::ops::Range<usize> = 156..414;
+const TLB: std::ops::Range<usize> = 156..412;
 
 /// The two machines, with their worlds at the start.
 struct Pair {
@@ -81,11 +81,12 @@ impl Pair {
         }
         let start = self.starts[0].machine.bytes();
         if first[TLB] != start[TLB] {
-            return Err("the TLB or the replacement index changed".to_string());
+            return Err("the TLB changed".to_string());
         }
         if user && first[SPECIALS] != start[SPECIALS] {
             return Err("a special register changed in User Mode".to_string());
         }
+        index_holds(start[REPLACEMENT_AT], first[REPLACEMENT_AT], steps)?;
         self.timer_holds(steps)?;
         self.frames_hold(worlds)
     }
@@ -124,6 +125,16 @@ impl Pair {
         }
         Ok(())
     }
+}
+
+/// User Mode moves the replacement index once for each step and in no other
+/// way (document 02, job 4).
+fn index_holds(start: u8, found: u8, steps: u64) -> Result<(), Difference> {
+    let moved = 4 + (u64::from(start) - 4 + steps) % 28;
+    if u64::from(found) != moved {
+        return Err(format!("index {found} after {steps} steps, not {moved}"));
+    }
+    Ok(())
 }
 
 fn timer_of(world: &World) -> Timer {

@@ -122,6 +122,7 @@ pub fn case(numbers: &mut Numbers, counts: &mut Counts) -> Result<(), Difference
     let scene = machines::machine(memory(numbers), numbers);
     let mut scene = stream(scene, &list, numbers);
     let mut bench = Bench::new(World::of(&scene));
+    count_index(&scene, counts);
     counts.steps.begin(wanted_steps(&list));
     for (n, run) in list.iter().enumerate() {
         count_run(run, counts);
@@ -132,6 +133,12 @@ pub fn case(numbers: &mut Numbers, counts: &mut Counts) -> Result<(), Difference
             .map_err(|what| format!("run {n}: {what}"))?;
     }
     Ok(())
+}
+
+/// The replacement index that a machine begins with.
+fn count_index(scene: &Scene, counts: &mut Counts) {
+    let item = scene.cpu.replacement.to_string();
+    counts.calls.add("index at the start", item);
 }
 
 fn count_run(run: &Run, counts: &mut Counts) {

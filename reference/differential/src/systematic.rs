@@ -4,7 +4,7 @@
 use crate::bench::{Bench, Counts, Difference};
 use crate::damage::{never_kept, set_bit};
 use crate::world::{Call, Lent, Run, World};
-use eco32_reference::asm::{addi, j, stw};
+use eco32_reference::asm::{addi, j, mvts, stw, tbwr};
 use eco32_reference::record::{readable, CONTROL_AT, KIND_BYTES, REPLACEMENT_AT};
 use eco32_reference::vectors::machines;
 use eco32_reference::vectors::numbers::Numbers;
@@ -210,18 +210,28 @@ fn sets_of_causes(counts: &mut Counts) -> Result<(), Difference> {
     Ok(())
 }
 
-/// Counts of steps at the limit and far past it, on a loop without exceptions,
-/// with the timer off and running.
-fn numbers_of_steps(counts: &mut Counts) -> Result<(), Difference> {
+/// A loop of five steps without exceptions that stores and writes a new TLB
+/// entry each time. 5 and 28 have no common divisor, so it comes to every slot.
+fn endless_loop() -> Scene {
+    let words = [
+        addi(1, 1, 0x1000),
+        stw(1, 2, 0x80),
+        mvts(1, 2),
+        tbwr(),
+        j(-5),
+    ];
     let mut scene = Scene::new();
-    for (n, word) in [addi(1, 1, 1), stw(1, 2, 0x80), j(-3)]
-        .into_iter()
-        .enumerate()
-    {
+    for (n, word) in words.into_iter().enumerate() {
         scene.put(0x2000_0000 + 4 * n as u32, word);
     }
-    let scene = scene.set(2, 0xC000_0000);
-    let timed = scene.clone().with_timer(1009, 1, 2);
+    scene.set(2, 0xC000_0000)
+}
+
+/// Counts of steps at the limit and far past it, with the timer off and
+/// running, and the replacement index at both ends.
+fn numbers_of_steps(counts: &mut Counts) -> Result<(), Difference> {
+    let scene = endless_loop();
+    let timed = scene.clone().with_timer(1009, 1, 2).with_index(31);
     for wanted in [0, 1, 2, MAX_STEPS - 1, MAX_STEPS] {
         for run in [plain(wanted), to_exception(wanted)] {
             for scene in [&scene, &timed] {

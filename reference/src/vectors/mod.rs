@@ -12,7 +12,10 @@ pub mod mnemonics;
 pub mod numbers;
 pub mod observe;
 mod operands;
+mod replacement;
+mod replacing;
 pub mod required;
+mod required_replacement;
 mod required_timer;
 pub mod scene;
 pub mod stream;
@@ -57,6 +60,7 @@ pub fn cases(sink: &mut dyn Sink) {
     interrupts::cases(sink, &mut turn, &mut numbers);
     ignored::cases(sink, &mut turn, &mut numbers);
     timer::cases(sink, &mut turn, &mut numbers);
+    replacement::cases(sink);
     for _ in 0..STREAMS {
         let steps = 1 + numbers.below(20);
         let stream = Stream::random(&mut numbers, steps);

@@ -2,6 +2,7 @@
 
 use super::access;
 use super::mnemonics::{mnemonic, MVTS, RFX};
+use super::replacing::Course;
 use super::scene::Scene;
 use super::tally::Tally;
 use crate::exception::{Fault, NO_EXCEPTION};
@@ -77,6 +78,8 @@ pub struct Observer {
     previous: Option<u32>,
     /// What raised the timer's line in the step before.
     pub(super) raised: Option<&'static str>,
+    /// The replacement index in the present case.
+    pub(super) course: Course,
 }
 
 impl Observer {
@@ -84,6 +87,7 @@ impl Observer {
     pub fn begin(&mut self, steps: usize) {
         self.previous = None;
         self.raised = None;
+        self.course = Course::default();
         self.tally.add("set", "cases");
         let length = match steps {
             0..=1 => "of 1 step",
@@ -114,6 +118,7 @@ impl Observer {
     fn count(&mut self, step: &Step) {
         self.general(step);
         self.timer(step);
+        self.replacement(step);
         self.interrupt_lines(step);
         if step.eid < 16 {
             self.accepted_interrupt(step);

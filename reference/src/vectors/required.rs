@@ -2,6 +2,7 @@
 
 use super::mnemonics::{group, ignored_bits, mnemonic, opcodes, Group};
 use super::observe::{EDGES, EDGE_IMMEDIATES, EDGE_OFFSETS, SHIFT_COUNTS};
+use super::required_replacement::replacement;
 use super::required_timer::timer;
 use super::tally::Required;
 
@@ -45,6 +46,7 @@ pub fn required() -> Vec<Required> {
     system(&mut list);
     interrupts(&mut list);
     timer(&mut list);
+    replacement(&mut list);
     list.0
 }
 

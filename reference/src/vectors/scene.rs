@@ -134,6 +134,11 @@ impl Scene {
         self
     }
 
+    pub fn with_index(mut self, replacement: u8) -> Scene {
+        self.cpu.replacement = replacement;
+        self
+    }
+
     pub fn memory(&mut self) -> Memory<'_> {
         Memory {
             ram: &mut self.ram,

@@ -16,6 +16,12 @@ pub const fn timer(divisor: u32, counter: u32, control: u8) -> Timer {
     }
 }
 
+/// The replacement index after so many steps: up by 1 with each, 31 to 4
+/// (document 02, job 4).
+pub fn moved(index: u8, steps: u32) -> u8 {
+    4 + ((u32::from(index) - 4 + steps) % 28) as u8
+}
+
 #[derive(Clone)]
 pub struct Rig {
     pub cpu: Processor,
@@ -87,12 +93,14 @@ impl Rig {
     }
 
     /// Makes one step and checks that it completes, that memory stays, and
-    /// that the state changes by `change` and the PC by 4.
+    /// that the state changes by `change`, the PC by 4, and the replacement
+    /// index by its move.
     #[track_caller]
     pub fn completes(&self, what: &str, change: impl FnOnce(&mut Processor)) {
         let mut after = self.clone();
         let mut expected = self.cpu.clone();
         expected.pc = expected.pc.wrapping_add(4);
+        expected.replacement = moved(expected.replacement, 1);
         change(&mut expected);
         assert_eq!(after.step(), 32, "{what}: EID");
         assert_eq!(after.cpu, expected, "{what}: state");
@@ -101,7 +109,8 @@ impl Rig {
 
     /// Makes one step and checks that it faults with `eid`, that memory
     /// stays, and that the state is exactly that of exception entry to `pc`
-    /// with `psw`, changed by `change` in Bad Address and Entry High.
+    /// with `psw`, changed by `change` in Bad Address and Entry High, and by
+    /// the move of the replacement index.
     #[track_caller]
     pub fn faults(
         &self,
@@ -116,6 +125,7 @@ impl Rig {
         expected.registers[30] = expected.pc;
         expected.psw = psw;
         expected.pc = pc;
+        expected.replacement = moved(expected.replacement, 1);
         change(&mut expected);
         assert_eq!(after.step(), eid, "{what}: EID");
         assert_eq!(after.cpu, expected, "{what}: state");

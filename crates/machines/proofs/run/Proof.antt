@@ -9,9 +9,9 @@ returns : tie.Need-returns
 unfolding sameMachine
 returns c =
     let at-same-state = c .before .before .before in
-    let at-run-of-kind = at-same-state .before .before .before .before .before .before .before .before in
+    let at-run-of-kind = at-same-state .before .before .before .before .before .before .before .before .before in
     let e = at-run-of-kind .run-of-kind .ensures in
-    (rw (← e), (rw (← e, two, at-same-state .same-state .ensures, c .same-memory .ensures), rw (← e)))
+    (rw (← e), (rw (← e, two, at-same-state .same-state .ensures, c .same-memory .ensures), (rw (← e), (rw (← e), rw (← e)))))
 
 pub run-spec : {M : Type 1} → statement M
 run-spec =

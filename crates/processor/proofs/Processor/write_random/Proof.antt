@@ -6,6 +6,4 @@ use Rattle.processor.proofs.Processor.write_random.Tie as tie
 
 pub write-random-spec : {M : Type 1} → statement M
 unfolding randomWritten
-write-random-spec =
-    tie.close
-    (tie.spec (λ c. search needs) (λ c κs. search needs) (λ c κs. search needs) (λ c. simp (c .write-entry .ensures, c .before .next-replacement .ensures)))
+write-random-spec = tie.close (tie.spec (λ c. search needs) (λ c κs. search needs) (λ c. search needs))

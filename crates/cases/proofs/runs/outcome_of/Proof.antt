@@ -1,9 +1,9 @@
--- `cases::runs::print_run` is safe and ends.
+-- `cases::runs::outcome_of` is safe and ends.
 use native.Mathlib.Omega.{arith}
 use Rattle.cases.proofs.Filled.{taken, part}
 use borrow.Author.Needs.{needs}
-use Rattle.cases.proofs.runs.print_run.Statement.{statement}
-use Rattle.cases.proofs.runs.print_run.Tie as tie
+use Rattle.cases.proofs.runs.outcome_of.Statement.{statement}
+use Rattle.cases.proofs.runs.outcome_of.Tie as tie
 
 slice-aggregate-run-2 : tie.Need-slice-aggregate-run-2
 slice-aggregate-run-2 c =
@@ -13,9 +13,9 @@ slice-aggregate-run-2 c =
     taken (at-args .args .rom) (at-write-word2 .write-word2 .last .0)
     (omega (arith, at-write-word2 .write-word2 .kept .0, at-write-word .write-word .kept .0, at-args .pre .1))
 
-pub print-run-spec : {M : Type 1} → statement M
-print-run-spec =
+pub outcome-of-spec : {M : Type 1} → statement M
+outcome-of-spec =
     tie.close
     (tie.spec (λ c. search needs) (λ c. search needs) (λ c κs. search needs) (λ c. search needs) (λ c. search needs) (λ c κs. search needs) (λ c. search needs)
     (λ c. search (needs, part)) (λ c. search needs) slice-aggregate-run-2 (λ c. search needs) (λ c. search (needs, part)) (λ c. search needs)
-    (λ c. search (needs, part)) (λ c. search needs) (λ c. search (needs, part)) (λ c κs. search needs) (λ c κs. search needs) (λ c. search needs))
+    (λ c. search (needs, part)) (λ c. search needs) (λ c. search (needs, part)) (λ c κs. search needs) (λ c. search needs))
