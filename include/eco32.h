@@ -29,7 +29,7 @@
  *
  * Replacement index. It goes up by 1 after every step, a step that accepts an
  * exception too, and from 31 to 4. TBWR writes the TLB entry that the index
- * named before that step, and moves it no further.
+ * named before that step, and does not move the index itself.
  *
  * Words in records, ROM and RAM images and belt registers are big-endian.
  *

@@ -465,9 +465,9 @@ static uint32_t moved(uint32_t index, uint64_t steps)
 }
 
 /* What so many steps leave for their end: the moves of the index, the ticks, and the entry of a TBWR, which goes where the
- * index was before its last move. TBWR alone asks for the index, so it ends a stretch. Moved in every step, the index costs
- * each 3 to 4 in a hundred; counted by TBWR within a stretch, 1 to 2. A new divisor has taken the counter, so it only gets
- * the tick of its own step. */
+ * index was before its last move. TBWR alone asks for the index, so it ends a stretch. Moving it in every step would cost
+ * 3 to 4 % a step; letting TBWR count within a stretch, 1 to 2 %. A new divisor has taken the counter, so it only gets the
+ * tick of its own step. */
 static void settle(struct plain_machine *m, uint64_t made, uint32_t eid)
 {
     m->replacement = moved(m->replacement, made);

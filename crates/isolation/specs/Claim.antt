@@ -44,7 +44,7 @@ pub record Held (start m : Machine) : Type 0 where
   pub staying : inUserMode m ≡ true → specialsOf (m .processor) ≡ specialsOf (start .processor)
 
 -- the leaving step: the machine before it was in User Mode with the start's special registers, it named an exception, and they are what entry
--- makes of them; of the rest of the processor, entry and the move of the replacement index make what there is
+-- makes of them; the whole processor is what entry, and then the move of the replacement index, make of the one before
 pub record Left (start before : Machine) (s : Made) : Type 0 where
   pub eid : ℕ
   pub address : ℕ

@@ -46,7 +46,7 @@ writeIn w m (Belt at) v = memory (m .ram) (m .rom) (writeAt w (m .belt) at v)
 writeIn w m (Timer at) v = m
 writeIn w m Nothing v = m
 
--- the width of an access, by a number of the code: none has another than 1, 2 and 4
+-- the width of an access, from the number that the code has for it: no access has another than 1, 2 and 4
 unfoldable pub accessWidth : ℕ → ℕ
 accessWidth width = cond (eqb width 1) 1 (cond (eqb width 2) 2 4)
 

@@ -86,7 +86,7 @@ runOf q m = countedAll q (refused m (runRefusal m (q .wanted))) (stepsOf q m)
 
 -- ---- as the loop makes it
 
--- a processor with the replacement index of so many steps after a first one: the loop does without it
+-- a processor with the replacement index that so many steps make of a first one; the loop's own keeps an old one
 abbrev pub indexed : ℕ → ℕ → Processor → Processor
 indexed first made p = withReplacement p (replacementAfter made first)
 

@@ -16,8 +16,8 @@ pub struct Ran {
     pub eid: u32,
 }
 
-// The steps of an accepted run, but for the replacement index: `kind` says whether an accepted exception ends it. The processor keeps an old
-// index, and where it is asked for, the run's first one and the steps made give it.
+// The steps of an accepted run, but for the replacement index. `kind` says whether an accepted exception ends it. The processor keeps an old
+// index; where it is asked for, the run's first one and the steps made give it.
 fn turns(
     p: Processor,
     timer: Timer,

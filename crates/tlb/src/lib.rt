@@ -1,4 +1,5 @@
-// The entry of a page in the TLB, looked up or kept from before, and the replacement index (manual, 2.9, 3.6.5 and 3.6.6).
+// The entry of a page in the TLB, looked up or kept from before, and the replacement index (manual, 2.9, 3.6.5 and 3.6.6;
+// document 02, job 4).
 ghost use mathlib.Core.Path.{_≡_};
 ghost use Rattle.tlb.specs.Lookup.{noEntry, lookup, foundIndex, replacementAfter, pageOf};
 ghost use mathlib.Core.Bool.{cond};
