@@ -67,6 +67,11 @@ static void print_page(uint64_t address, const uint8_t *page, size_t length)
     printf("%08" PRIX64 "\n", address + length);
 }
 
+void print_slot(uint32_t slot)
+{
+    printf("slot %" PRIu32 "%s", slot, slot == ECO32_DIRECT_MAPPED ? " (direct-mapped)" : "");
+}
+
 int print_view(const struct world *world, const char *text, uint64_t page)
 {
     struct eco32_view view =
@@ -74,7 +79,9 @@ int print_view(const struct world *world, const char *text, uint64_t page)
 
     if (view.refusal != ECO32_ACCEPTED)
         return say_refused("--view", text, view.refusal);
-    printf("page %05" PRIX64 ", RAM offset %08" PRIX64 "\n", page, view.offset);
+    printf("page %05" PRIX64 ", RAM offset %08" PRIX64 ", ", page, view.offset);
+    print_slot(view.slot);
+    putchar('\n');
     print_page(page * ECO32_FRAME_LENGTH, world->ram.at + view.offset, (size_t)view.length);
     return STATUS_GOOD;
 }

@@ -3,6 +3,7 @@
 #include "run.h"
 
 #include "eco32_text.h"
+#include "print.h"
 #include "say.h"
 #include "script.h"
 #include "state.h"
@@ -60,17 +61,18 @@ static int call(const struct options *options, struct world *world, uint64_t ste
 
     if (traced)
         trace_before(world, &before);
-    /* A traced step is a run of its own, and only a run to exception names the EID. */
+    /* A traced step is a run of its own: its slot is the answer's. Only a run to exception names the EID. */
     answer = (traced || until ? eco32_run_to_exception : eco32_run)(
         world->machine, sizeof world->machine, world->ram.at, world->ram.length, world->rom.at, world->rom.length,
         world->belt.at, world->belt.length, steps, lines);
     if (answer.refusal != ECO32_ACCEPTED)
         return say_run_refused(options, answer.refusal);
     ending->made += answer.steps;
+    ending->slot = answer.slot;
     if (until)
         ending->eid = answer.eid;
     if (traced && answer.steps != 0)
-        trace_after(options->first_step + ending->made - 1, answer.eid, &before, world);
+        trace_after(options->first_step + ending->made - 1, &answer, &before, world);
     return STATUS_GOOD;
 }
 
@@ -116,6 +118,10 @@ static void print_end(const struct options *options, const struct world *world, 
         printf(", EID %02" PRIu32 " (%s)", ending->eid, eco32_exception_name(ending->eid));
     else if (options->given[OPTION_UNTIL_EXCEPTION] != NULL)
         printf(", no exception");
+    if (ending->slot != ECO32_NO_SLOT) {
+        printf(", data ");
+        print_slot(ending->slot);
+    }
     if (options->given[OPTION_UNTIL_PC] != NULL)
         printf(", --until-pc %08" PRIX64 " %s", options->until_pc, ending->reached ? "reached" : "not reached");
     if (ending->broke)
@@ -131,7 +137,7 @@ int run(const struct options *options, const struct pairs *script, struct world 
     int status;
 
     progress.shows = options->steps > ECO32_MOST_STEPS && options->given[OPTION_TRACE] == NULL && isatty(STDERR_FILENO);
-    *ending = (struct ending){0, ECO32_NO_EXCEPTION, 0, 0, 0, 0};
+    *ending = (struct ending){0, ECO32_NO_EXCEPTION, ECO32_NO_SLOT, 0, 0, 0, 0};
     stop_prepare();
     errno = 0;
     /* A run of no steps is a call too, for its refusals. */

@@ -10,6 +10,7 @@
 struct ending {
     uint64_t made; /* steps */
     uint32_t eid;  /* of the exception that ended it, or 32 */
+    uint32_t slot; /* of its last step's load or store, or 33 */
     int reached;   /* it stands at the PC of --until-pc */
     int broke;     /* it stands at a PC of --break, to which it came */
     int signal;    /* the one that stopped it before its end, or 0 */

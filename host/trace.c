@@ -74,6 +74,16 @@ static void trace_store(const struct trace *before, const struct world *world)
     printf(" (%s %08" PRIX32 ")", world_part(physical), physical);
 }
 
+/* The TLB entry that served a load or store, as the model answers it. Other steps have none, and neither has an access
+ * that faulted. */
+static void trace_slot(uint32_t slot)
+{
+    if (slot == ECO32_DIRECT_MAPPED)
+        printf(" Slot=direct");
+    else if (slot != ECO32_NO_SLOT)
+        printf(" Slot=%" PRIu32, slot);
+}
+
 /* Whether the counter rested, or just went down by 1, as it does in nearly every step of a timer that runs. */
 static int counts_on(const uint8_t *before, const uint8_t *after)
 {
@@ -95,8 +105,10 @@ static void trace_timer(const uint8_t *before, const uint8_t *after)
         printf(" Control=%" PRIX32, state_timer_control(after));
 }
 
-void trace_after(uint64_t step, uint32_t eid, const struct trace *before, const struct world *world)
+void trace_after(uint64_t step, const struct eco32_answer *answer, const struct trace *before,
+                 const struct world *world)
 {
+    uint32_t eid = answer->eid;
     uint32_t pc = state_pc(before->machine);
     uint32_t next = state_pc(world->machine);
 
@@ -114,6 +126,7 @@ void trace_after(uint64_t step, uint32_t eid, const struct trace *before, const 
     trace_tlb(before->machine, world->machine);
     if (eid == ECO32_NO_EXCEPTION)
         trace_store(before, world);
+    trace_slot(answer->slot);
     trace_timer(before->machine, world->machine);
     if (next != pc + 4)
         printf(" PC=%08" PRIX32, next);

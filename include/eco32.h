@@ -31,6 +31,11 @@
  * exception too, and from 31 to 4. TBWR writes the TLB entry that the index
  * named before that step, and does not move the index itself.
  *
+ * Slots. A slot says which TLB entry served an access: the entry's number, 0 to
+ * 31, or ECO32_DIRECT_MAPPED (32) for an address from C0000000 up, which needs
+ * none. A run answers the slot of its last step's load or store. Where that step
+ * completed none, or no step was made, it is ECO32_NO_SLOT (33).
+ *
  * Words in records, ROM and RAM images and belt registers are big-endian.
  *
  * eco32_text.h has words for the numbers that the calls answer.
@@ -50,16 +55,16 @@ extern "C" {
  * need changes for a later one if the major number is another, or, as long as
  * that is 0, the minor number. */
 #define ECO32_VERSION_MAJOR 0
-#define ECO32_VERSION_MINOR 4
+#define ECO32_VERSION_MINOR 5
 #define ECO32_VERSION_PATCH 0
-#define ECO32_VERSION "0.4.0"
+#define ECO32_VERSION "0.5.0"
 
 /* The number N in libeco32.so.N, the name of the shared library. It goes up with
  * the first version in which a program that was linked before would no longer
  * run right: a struct has another layout, a record another length or other
  * places, a call other parameters, or one is gone. It also goes up with the
  * major number. */
-#define ECO32_ABI 2
+#define ECO32_ABI 3
 
 /* Length of a machine record. Its items, in this order, each behind its kind
  * byte: 01, registers 0 to 31 (128 bytes); 02, PC (4); 03, PSW, TLB Index,
@@ -120,6 +125,10 @@ extern "C" {
 /* Answered in place of an exception's EID (0 to 25) where there was none. */
 #define ECO32_NO_EXCEPTION 32
 
+/* Answered in place of the number of a TLB entry (0 to 31). */
+#define ECO32_DIRECT_MAPPED 32 /* the address was from C0000000 up */
+#define ECO32_NO_SLOT 33       /* no data access, a faulted one, no step, or refused */
+
 /* Refusal numbers, in the order in which they are tested. */
 #define ECO32_ACCEPTED 0              /* not refused */
 #define ECO32_REFUSED_RAM_LENGTH 1    /* RAM length: no multiple of 4,096 in 4,096 .. 536,870,912 */
@@ -135,14 +144,16 @@ extern "C" {
 
 /* Answer of a run. */
 struct eco32_answer {
-    uint32_t refusal; /* 0, or the refusal number; then steps is 0 and eid 32 */
+    uint32_t refusal; /* 0, or the refusal number; then steps is 0, eid 32 and slot 33 */
     uint32_t steps;   /* steps made */
     uint32_t eid;     /* run to exception: EID of the exception that ended it, or 32; plain run: 32 */
+    uint32_t slot;    /* of the last step's completed load or store: 0 to 31, or 32; else 33 */
 };
 
 /* Answer of a page view. */
 struct eco32_view {
-    uint32_t refusal; /* 0, or the refusal number; then offset and length are 0 */
+    uint32_t refusal; /* 0, or the refusal number; then slot is 33, offset and length are 0 */
+    uint32_t slot;    /* that served the lookup: 0 to 31, or 32 for a page from C0000 up */
     uint64_t offset;  /* where the frame begins in the RAM you lent */
     uint64_t length;  /* 4,096 */
 };
@@ -154,12 +165,14 @@ struct eco32_view {
 #endif
 
 #ifdef ECO32_ASSERT
-ECO32_ASSERT(sizeof(struct eco32_answer) == 12, "eco32_answer has 12 bytes");
+ECO32_ASSERT(sizeof(struct eco32_answer) == 16, "eco32_answer has 16 bytes");
 ECO32_ASSERT(offsetof(struct eco32_answer, refusal) == 0, "eco32_answer.refusal");
 ECO32_ASSERT(offsetof(struct eco32_answer, steps) == 4, "eco32_answer.steps");
 ECO32_ASSERT(offsetof(struct eco32_answer, eid) == 8, "eco32_answer.eid");
+ECO32_ASSERT(offsetof(struct eco32_answer, slot) == 12, "eco32_answer.slot");
 ECO32_ASSERT(sizeof(struct eco32_view) == 24, "eco32_view has 24 bytes");
 ECO32_ASSERT(offsetof(struct eco32_view, refusal) == 0, "eco32_view.refusal");
+ECO32_ASSERT(offsetof(struct eco32_view, slot) == 4, "eco32_view.slot");
 ECO32_ASSERT(offsetof(struct eco32_view, offset) == 8, "eco32_view.offset");
 ECO32_ASSERT(offsetof(struct eco32_view, length) == 16, "eco32_view.length");
 #undef ECO32_ASSERT
@@ -212,7 +225,9 @@ uint32_t eco32_write_record(const uint8_t *machine, size_t machine_len,
  *   lines    interrupt lines, bit i for channel i, held for the whole run;
  *            channel 14 is ready by your line or by the timer
  *
- * Answers a refusal 0 to 7, the steps made, and EID 32.
+ * Answers a refusal 0 to 7, the steps made, EID 32, and the slot of the last
+ * step's load or store, if it completed one, else 33. A store to ROM, to a belt
+ * register or to the timer has its slot too.
  */
 struct eco32_answer eco32_run(uint8_t *machine, size_t machine_len,
                               uint8_t *ram, size_t ram_len,
@@ -226,8 +241,8 @@ struct eco32_answer eco32_run(uint8_t *machine, size_t machine_len,
  * first instruction of the service routine.
  *
  * Answers a refusal 0 to 7, the steps made (with the one that accepted the
- * exception), and that exception's EID, or 32 if all wanted steps were made
- * without one.
+ * exception), that exception's EID, or 32 if all wanted steps were made without
+ * one, and the slot as above: a step that accepts an exception has none.
  */
 struct eco32_answer eco32_run_to_exception(uint8_t *machine, size_t machine_len,
                                            uint8_t *ram, size_t ram_len,
@@ -244,9 +259,10 @@ struct eco32_answer eco32_run_to_exception(uint8_t *machine, size_t machine_len,
  *   machine  the machine, 424 or 414 bytes, for its TLB
  *   page     virtual page number, 0 to FFFFF
  *
- * Answers 0 with the offset in RAM and the length 4,096; or 1, 4, 5, 6 or 8
- * with offset and length 0. Refusal 8: the page number exceeds FFFFF, that
- * load would fault, or its physical address is not in RAM.
+ * Answers 0 with the slot that served the lookup, the offset in RAM and the
+ * length 4,096; or 1, 4, 5, 6 or 8 with slot 33, and offset and length 0.
+ * Refusal 8: the page number exceeds FFFFF, that load would fault, or its
+ * physical address is not in RAM.
  */
 struct eco32_view eco32_page_view(const uint8_t *ram, size_t ram_len,
                                   const uint8_t *machine, size_t machine_len,

@@ -1,6 +1,6 @@
 /*
  * Measures the model against the plain simulator in C and the simulator in Rust: the same image, the same run, in
- * one process, in turn. After each round all three have to have the same machine and memory.
+ * one process, in turn. After each round all three have to have the same machine and memory, and the same last answer.
  */
 #define _POSIX_C_SOURCE 200809L
 
@@ -62,7 +62,7 @@ static double seconds(void)
     return (double)now.tv_sec + (double)now.tv_nsec * 1e-9;
 }
 
-static void call(const struct side *side, struct world *world, uint64_t wanted)
+static struct eco32_answer call(const struct side *side, struct world *world, uint64_t wanted)
 {
     static const uint8_t rom[ROM_LENGTH];
     struct eco32_answer answer = side->run(world->record, sizeof world->record, world->ram, sizeof world->ram, rom,
@@ -70,32 +70,38 @@ static void call(const struct side *side, struct world *world, uint64_t wanted)
 
     if (answer.refusal != ECO32_ACCEPTED || answer.steps != wanted)
         fail(side->name, "did not make the steps");
+    return answer;
 }
 
 /* Makes the steps in calls of at most a million, and answers the seconds. */
-static double timed(const struct side *side, struct world *world, uint64_t steps)
+static double timed(const struct side *side, struct world *world, uint64_t steps, struct eco32_answer *last)
 {
     double before = seconds();
 
     while (steps > 0) {
         uint64_t wanted = steps < ECO32_MOST_STEPS ? steps : ECO32_MOST_STEPS;
 
-        call(side, world, wanted);
+        *last = call(side, world, wanted);
         steps -= wanted;
     }
     return seconds() - before;
 }
 
 /* Makes calls of so many steps, and answers the seconds of one. */
-static double timed_call(const struct side *side, struct world *world, uint64_t steps)
+static double timed_call(const struct side *side, struct world *world, uint64_t steps, struct eco32_answer *last)
 {
     enum { CALLS = 1000 };
     double before = seconds();
     int n;
 
     for (n = 0; n < CALLS; n++)
-        call(side, world, steps);
+        *last = call(side, world, steps);
     return (seconds() - before) / CALLS;
+}
+
+static int same_answer(const struct eco32_answer *a, const struct eco32_answer *b)
+{
+    return a->refusal == b->refusal && a->steps == b->steps && a->eid == b->eid && a->slot == b->slot;
 }
 
 static int same(const struct world *a, const struct world *b)
@@ -105,14 +111,14 @@ static int same(const struct world *a, const struct world *b)
 }
 
 /* The programs meet no exception but the trap of a kind: another would have changed the PSW. */
-static void check(const struct world *start, const struct world worlds[SIDES])
+static void check(const struct world *start, const struct world worlds[SIDES], const struct eco32_answer answers[SIDES])
 {
     struct plain_machine before;
     struct plain_machine after;
     int n;
 
     for (n = 1; n < SIDES; n++)
-        if (!same(&worlds[0], &worlds[n]))
+        if (!same(&worlds[0], &worlds[n]) || !same_answer(&answers[0], &answers[n]))
             fail(sides[n].name, "and the model do not agree");
     plain_read(&before, start->record);
     plain_read(&after, worlds[0].record);
@@ -124,6 +130,7 @@ static void check(const struct world *start, const struct world worlds[SIDES])
 static void measure(const struct world *start, uint64_t steps, uint64_t rounds, double least[SIDES])
 {
     static struct world worlds[SIDES];
+    struct eco32_answer answers[SIDES];
     uint64_t round;
     int n;
 
@@ -132,11 +139,11 @@ static void measure(const struct world *start, uint64_t steps, uint64_t rounds, 
             double time;
 
             worlds[n] = *start;
-            time = timed(&sides[n], &worlds[n], steps);
+            time = timed(&sides[n], &worlds[n], steps, &answers[n]);
             if (round == 0 || time < least[n])
                 least[n] = time;
         }
-        check(start, worlds);
+        check(start, worlds, answers);
     }
 }
 
@@ -190,6 +197,7 @@ static void report_calls(const struct options *options)
     image_kernel(&start);
     printf("\n%-26s %8s %8s %8s\n", "Nanoseconds a call", sides[0].name, sides[1].name, sides[2].name);
     for (row = 0; row < sizeof steps / sizeof steps[0]; row++) {
+        struct eco32_answer answers[SIDES];
         double least[SIDES];
         uint64_t round;
         int n;
@@ -199,11 +207,11 @@ static void report_calls(const struct options *options)
                 double time;
 
                 worlds[n] = start;
-                time = timed_call(&sides[n], &worlds[n], steps[row]);
+                time = timed_call(&sides[n], &worlds[n], steps[row], &answers[n]);
                 if (round == 0 || time < least[n])
                     least[n] = time;
             }
-        check(&start, worlds);
+        check(&start, worlds, answers);
         printf("%3lu %-22s", (unsigned long)steps[row], steps[row] == 1 ? "step" : "steps");
         for (n = 0; n < SIDES; n++)
             printf(" %8.0f", least[n] * 1e9);
@@ -293,6 +301,6 @@ int main(int count, char **words)
     report_kinds(&options);
     report_calls(&options);
     report_stack();
-    printf("\nAfter each run the three had the same machine and memory.\n");
+    printf("\nAfter each run the three had the same machine, memory and answer.\n");
     return 0;
 }

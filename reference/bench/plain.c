@@ -15,7 +15,8 @@ enum eid {
     ILLEGAL_ADDRESS,
     PRIVILEGED_ADDRESS,
     NONE = ECO32_NO_EXCEPTION,
-    CONTROL_STORED, /* no exception either: a store to the timer has completed */
+    ACCESSED,       /* no exception either: a load or store has completed */
+    CONTROL_STORED, /* a store to the timer has */
     DIVISOR_STORED,
     ENTRY_DUE /* nor here: TBWR, which has still to write its entry */
 };
@@ -204,7 +205,7 @@ static uint32_t store(struct plain_machine *m, const struct plain_memory *memory
         return store_timer(m, at, value);
     else if (at - ROM_BASE >= memory->rom_length)
         return BUS_TIMEOUT;
-    return NONE;
+    return ACCESSED;
 }
 
 /* 80000000 by FFFFFFFF would overflow; its quotient is 80000000. */
@@ -336,6 +337,7 @@ static uint32_t transfer(struct plain_machine *m, const struct plain_memory *mem
     uint32_t value = 0;
     uint32_t eid;
 
+    m->accessed = address;
     switch (f->opcode) {
     case LDW: eid = load(m, memory, address, 4, &value); break;
     case LDH:
@@ -353,7 +355,10 @@ static uint32_t transfer(struct plain_machine *m, const struct plain_memory *mem
     case STB: return store(m, memory, address, 1, f->y);
     default: return ILLEGAL_INSTRUCTION;
     }
-    return eid == NONE ? set(m, f->second, value) : eid;
+    if (eid != NONE)
+        return eid;
+    set(m, f->second, value);
+    return ACCESSED;
 }
 
 /* Bits that each special register keeps; numbers above 4 store nothing. */
@@ -440,7 +445,9 @@ static uint32_t lowest_bit(uint32_t bits)
     return n;
 }
 
-/* A step without its tick, its move of the replacement index, and the entry of TBWR. */
+/* A step without its tick, its move of the replacement index, and the entry of TBWR. It begins a line of the cache: at other
+ * places, which what is linked before it decides, it may be slower by a sixth. */
+__attribute__((aligned(64)))
 static uint32_t step(struct plain_machine *m, const struct plain_memory *memory, uint16_t lines)
 {
     uint32_t ready = m->special[PSW] & lines;
@@ -476,16 +483,28 @@ static void settle(struct plain_machine *m, uint64_t made, uint32_t eid)
         write_entry(m, m->replacement > 4 ? m->replacement - 1 : 31);
 }
 
-uint32_t plain_step(struct plain_machine *m, const struct plain_memory *memory, uint16_t lines)
+/* The slot of a step's data access, if it has completed one (document 02, job 2). The entries are still those of the access,
+ * so a run looks for it once, after its last step. */
+static uint32_t slot(const struct plain_machine *m, uint32_t eid)
 {
-    uint32_t eid = step(m, memory, timer_lines(&m->timer, lines));
-
-    settle(m, 1, eid);
-    return eid < NONE ? eid : NONE;
+    if (eid < ACCESSED || eid > DIVISOR_STORED)
+        return ECO32_NO_SLOT;
+    return m->accessed < DIRECT_BASE ? find(m, m->accessed) : ECO32_DIRECT_MAPPED;
 }
 
-/* Steps up to the timer's next wrap, to a store to the timer, to TBWR or to the most wanted, and what they leave. */
-static uint64_t stretch(struct plain_machine *m, const struct plain_memory *memory, uint16_t lines, uint64_t most)
+struct plain_answer plain_step(struct plain_machine *m, const struct plain_memory *memory, uint16_t lines)
+{
+    uint32_t eid = step(m, memory, timer_lines(&m->timer, lines));
+    struct plain_answer answer = {eid < NONE ? eid : NONE, slot(m, eid)};
+
+    settle(m, 1, eid);
+    return answer;
+}
+
+/* Steps up to the timer's next wrap, to a store to the timer, to TBWR or to the most wanted, and what they leave. The last
+ * one's EID, or what stands for it, goes to `last`. */
+static uint64_t stretch(struct plain_machine *m, const struct plain_memory *memory, uint16_t lines, uint64_t most,
+                        uint32_t *last)
 {
     uint64_t to_wrap = timer_to_wrap(&m->timer);
     uint64_t made = 0;
@@ -497,8 +516,9 @@ static uint64_t stretch(struct plain_machine *m, const struct plain_memory *memo
     do {
         eid = step(m, memory, lines);
         made++;
-    } while (made < most && eid <= NONE);
+    } while (made < most && eid <= ACCESSED);
     settle(m, made, eid);
+    *last = eid;
     return made;
 }
 
@@ -506,15 +526,17 @@ struct eco32_answer plain_run(uint8_t *machine, size_t machine_len, uint8_t *ram
                               size_t rom_len, uint8_t *belt, size_t belt_len, uint64_t wanted, uint16_t lines)
 {
     struct plain_memory memory = {ram, ram_len, rom, rom_len, belt};
-    struct eco32_answer answer = {ECO32_ACCEPTED, (uint32_t)wanted, ECO32_NO_EXCEPTION};
+    struct eco32_answer answer = {ECO32_ACCEPTED, (uint32_t)wanted, ECO32_NO_EXCEPTION, ECO32_NO_SLOT};
     struct plain_machine m;
     uint64_t made = 0;
+    uint32_t last = NONE;
 
     (void)machine_len; /* 424 and 1,024, as the caller has to see to */
     (void)belt_len;
     plain_read(&m, machine);
     while (made < wanted)
-        made += stretch(&m, &memory, lines, wanted - made);
+        made += stretch(&m, &memory, lines, wanted - made, &last);
+    answer.slot = slot(&m, last);
     plain_write(&m, machine);
     return answer;
 }

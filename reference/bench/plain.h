@@ -24,6 +24,7 @@ struct plain_machine {
     struct plain_entry tlb[32];
     uint32_t replacement;
     struct plain_timer timer;
+    uint32_t accessed; /* address of the last load or store; no part of the record */
 };
 
 struct plain_memory {
@@ -40,8 +41,14 @@ void plain_reset(struct plain_machine *m);
 void plain_read(struct plain_machine *m, const uint8_t *record);
 void plain_write(const struct plain_machine *m, uint8_t *record);
 
-/* Makes one step, its tick and the index's move. Answers the EID of the exception that it accepted, or 32. */
-uint32_t plain_step(struct plain_machine *m, const struct plain_memory *memory, uint16_t lines);
+/* The EID of the exception that a step accepted, or 32; the slot of its data access, or 33 if it completed none. */
+struct plain_answer {
+    uint32_t eid;
+    uint32_t slot;
+};
+
+/* Makes one step, its tick and the index's move. */
+struct plain_answer plain_step(struct plain_machine *m, const struct plain_memory *memory, uint16_t lines);
 
 /* The plain run, called as eco32_run is. */
 struct eco32_answer plain_run(uint8_t *machine, size_t machine_len, uint8_t *ram, size_t ram_len, const uint8_t *rom,

@@ -1,8 +1,8 @@
 /*
  * The firmware of examples/refill on the model, the plain simulator and the simulator in Rust: step by step, and then the
  * same steps in one call, which the plain simulator makes in another way. After each step and after the call all three
- * have to have the same machine and memory. It prints a line for each entry that a side writes: the side, the step, the page
- * and the slot.
+ * have to have the same machine and memory, and name the same slot for the step's data access. It prints a line for each
+ * entry that a side writes: the side, the step, the page and the slot.
  */
 #include "plain.h"
 
@@ -28,11 +28,12 @@ struct side {
 
 static const struct side sides[SIDES] = {{"model", eco32_run}, {"C", plain_run}, {"Rust", reference_run}};
 
-/* What a run may change. */
+/* What a run may change, and the slot that the last one answered. */
 struct world {
     uint8_t record[ECO32_RECORD_LENGTH];
     uint8_t ram[FRAMES * ECO32_FRAME_LENGTH];
     uint8_t belt[ECO32_BELT_LENGTH];
+    uint32_t slot;
 };
 
 static uint8_t rom[ECO32_ROM_LEAST];
@@ -70,6 +71,7 @@ static void call(const struct side *side, struct world *world, uint64_t wanted)
 
     if (answer.refusal != ECO32_ACCEPTED || answer.steps != wanted)
         fail(side->name, "did not make the steps");
+    world->slot = answer.slot;
 }
 
 /* One step of a side. Answers whether it stays where it is. */

@@ -1,7 +1,7 @@
 /*
- * Replays the file of vectors on the plain simulator: machine, EID and all memory after each step. Steps in a row with the
- * same lines are made once more as one run, which has to end alike: it makes the timer's ticks and the moves of the
- * replacement index in another way.
+ * Replays the file of vectors on the plain simulator: machine, EID, slot and all memory after each step. Steps in a row with
+ * the same lines are made once more as one run, which has to end alike, with the slot of its last step: it makes the timer's
+ * ticks and the moves of the replacement index in another way.
  *
  * The file's commands have 8 bytes, big-endian: a kind byte, a number a of 24 bits, a number b of 32 bits.
  * reference/src/vectors/writer.rs writes them.
@@ -27,6 +27,7 @@ struct replay {
     struct scene run; /* as found, but for the steps that wait for their run */
     uint64_t waiting;
     uint16_t lines; /* of the steps that wait */
+    uint32_t slot;  /* of the last of them */
     unsigned long cases;
     unsigned long steps;
     unsigned long mismatches;
@@ -73,41 +74,45 @@ static void run(struct replay *replay)
 {
     struct scene *scene = &replay->run;
     uint64_t steps = replay->waiting;
+    struct eco32_answer answer;
 
     if (steps == 0)
         return;
     replay->waiting = 0;
-    plain_run(scene->record, sizeof scene->record, scene->ram, sizeof scene->ram, scene->rom, sizeof scene->rom,
-              scene->belt, sizeof scene->belt, steps, replay->lines);
-    if (memcmp(scene, &replay->found, sizeof *scene) == 0)
+    answer = plain_run(scene->record, sizeof scene->record, scene->ram, sizeof scene->ram, scene->rom, sizeof scene->rom,
+                       scene->belt, sizeof scene->belt, steps, replay->lines);
+    if (answer.slot == replay->slot && memcmp(scene, &replay->found, sizeof *scene) == 0)
         return;
     if (mismatch(replay))
-        fprintf(stderr, "replay: case %lu, up to step %lu of the file: a run of %lu steps ends in another state\n",
+        fprintf(stderr, "replay: case %lu, up to step %lu of the file: a run of %lu steps ends in another state or slot\n",
                 replay->cases, replay->steps, (unsigned long)steps);
     *scene = replay->found;
 }
 
-/* The replay goes on from the expected scene, so that each step is judged by itself. */
-static void step(struct replay *replay, uint16_t lines, uint32_t expected_eid)
+/* A step is told as its slot times 256, and its EID. The replay goes on from the expected scene, so that each step is judged
+ * by itself. */
+static void step(struct replay *replay, uint16_t lines, uint32_t expected)
 {
     struct scene *found = &replay->found;
     struct plain_memory memory = {found->ram, sizeof found->ram, found->rom, sizeof found->rom, found->belt};
     struct plain_machine m;
-    uint32_t eid;
+    struct plain_answer answer;
 
     if (lines != replay->lines)
         run(replay);
     replay->lines = lines;
     replay->waiting++;
     plain_read(&m, found->record);
-    eid = plain_step(&m, &memory, lines);
+    answer = plain_step(&m, &memory, lines);
     plain_write(&m, found->record);
+    replay->slot = answer.slot;
     replay->steps++;
-    if (eid == expected_eid && memcmp(found, &replay->expected, sizeof *found) == 0)
+    if (answer.slot * 256 + answer.eid == expected && memcmp(found, &replay->expected, sizeof *found) == 0)
         return;
     if (mismatch(replay))
-        fprintf(stderr, "replay: case %lu, step %lu of the file: another state or EID (%lu, expected %lu)\n",
-                replay->cases, replay->steps, (unsigned long)eid, (unsigned long)expected_eid);
+        fprintf(stderr, "replay: case %lu, step %lu of the file: another state, EID (%lu, expected %lu) or slot (%lu, %lu)\n",
+                replay->cases, replay->steps, (unsigned long)answer.eid, (unsigned long)(expected % 256),
+                (unsigned long)answer.slot, (unsigned long)(expected / 256));
     *found = replay->expected;
     replay->run = replay->expected;
     replay->waiting = 0;

@@ -3,15 +3,18 @@
 //! that is only read may have the old length (document 02, job 1).
 
 use crate::memory::Memory;
+use crate::mmu::NO_SLOT;
 use crate::processor::Processor;
 use crate::record::{self, RECORD_LENGTH};
 use crate::run::{memory_refusal, ram_refusal, refusal, Answer};
 use crate::view;
 
-/// Result of a page view in numbers; offset and length are 0 if refused.
+/// Result of a page view in numbers; if refused the slot is 33, and offset and
+/// length are 0.
 #[derive(Clone, Copy, Debug, PartialEq, Eq)]
 pub struct View {
     pub refusal: u32,
+    pub slot: u32,
     pub offset: u64,
     pub length: u64,
 }
@@ -109,6 +112,7 @@ fn run_on_record(
 pub fn page_view(ram: &[u8], machine: &[u8], page: u64) -> View {
     let refused = |refusal| View {
         refusal,
+        slot: NO_SLOT,
         offset: 0,
         length: 0,
     };
@@ -122,6 +126,7 @@ pub fn page_view(ram: &[u8], machine: &[u8], page: u64) -> View {
     let view = view::page_view(ram, &processor, page);
     View {
         refusal: view.refusal,
+        slot: view.slot,
         offset: view.offset as u64,
         length: view.part.len() as u64,
     }

@@ -25,8 +25,10 @@ pub mod view;
 
 pub use exception::{Fault, NO_EXCEPTION};
 pub use memory::{Memory, Width};
+pub use mmu::{DIRECT_MAPPED, NO_SLOT};
 pub use processor::{Processor, TlbEntry};
 pub use record::{read_record, write_record, OLD_RECORD_LENGTH, RECORD_LENGTH};
 pub use run::{refusal, Answer, MAX_STEPS};
+pub use step::Stepped;
 pub use timer::Timer;
 pub use view::{page_view, PageView};

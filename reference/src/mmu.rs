@@ -15,11 +15,26 @@ const WRITE: u32 = 1 << 1;
 /// Value of TLB Index after a search without a match (manual 3.6.5).
 const NOT_FOUND: u32 = 0x8000_0000;
 
+/// Slot of a direct-mapped address, which no TLB entry serves (document 02,
+/// job 2).
+pub const DIRECT_MAPPED: u32 = 32;
+/// Answered in place of a slot where no access was completed (document 02, job
+/// 2).
+pub const NO_SLOT: u32 = 33;
+
 /// Direction of an access; an instruction fetch is a load.
 #[derive(Clone, Copy, Debug, PartialEq, Eq)]
 pub enum Access {
     Load,
     Store,
+}
+
+/// What an address became: the physical one, and the slot that served it, the
+/// index of the TLB entry or 32 (document 02, job 2).
+#[derive(Clone, Copy, Debug, PartialEq, Eq)]
+pub struct Found {
+    pub physical: u32,
+    pub slot: u32,
 }
 
 impl Processor {
@@ -39,7 +54,7 @@ impl Processor {
         width: Width,
         access: Access,
         user_mode: bool,
-    ) -> Result<u32, Fault> {
+    ) -> Result<Found, Fault> {
         if !address.is_multiple_of(width.bytes() as u32) {
             return Err(Fault::IllegalAddress(address));
         }
@@ -47,7 +62,10 @@ impl Processor {
             return Err(Fault::PrivilegedAddress(address));
         }
         if address >= DIRECT_BASE {
-            return Ok(address - DIRECT_BASE);
+            return Ok(Found {
+                physical: address - DIRECT_BASE,
+                slot: DIRECT_MAPPED,
+            });
         }
         let Some(index) = self.find_entry(address) else {
             return Err(Fault::TlbMiss(address));
@@ -61,7 +79,10 @@ impl Processor {
         if access == Access::Store && low & WRITE == 0 {
             return Err(Fault::TlbWrite(address));
         }
-        Ok((low & 0xFFFF_F000) | (address & 0x0000_0FFF))
+        Ok(Found {
+            physical: (low & 0xFFFF_F000) | (address & 0x0000_0FFF),
+            slot: index as u32,
+        })
     }
 
     /// TBS (manual 3.6.5). Page numbers of the direct-mapped space are found

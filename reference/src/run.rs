@@ -2,7 +2,9 @@
 
 use crate::exception::NO_EXCEPTION;
 use crate::memory::Memory;
+use crate::mmu::NO_SLOT;
 use crate::processor::Processor;
+use crate::step::Stepped;
 
 /// Most steps that one run may want.
 pub const MAX_STEPS: u64 = 1_000_000;
@@ -20,12 +22,14 @@ pub mod refusal {
     pub const NO_RAM_FRAME: u32 = 8;
 }
 
-/// Result of a run.
+/// Result of a run. The slot is that of the last step's data access (document
+/// 02, job 2).
 #[derive(Clone, Copy, Debug, PartialEq, Eq)]
 pub struct Answer {
     pub refusal: u32,
     pub steps: u32,
     pub eid: u32,
+    pub slot: u32,
 }
 
 impl Answer {
@@ -34,6 +38,7 @@ impl Answer {
             refusal,
             steps: 0,
             eid: NO_EXCEPTION,
+            slot: NO_SLOT,
         }
     }
 }
@@ -88,14 +93,16 @@ impl Processor {
             return Answer::refused(refusal);
         }
         let mut steps = 0;
+        let mut slot = NO_SLOT;
         while u64::from(steps) < wanted {
-            self.step(memory, lines);
+            slot = self.step(memory, lines).slot;
             steps += 1;
         }
         Answer {
             refusal,
             steps,
             eid: NO_EXCEPTION,
+            slot,
         }
     }
 
@@ -108,14 +115,16 @@ impl Processor {
         }
         let mut steps = 0;
         let mut eid = NO_EXCEPTION;
+        let mut slot = NO_SLOT;
         while u64::from(steps) < wanted && eid == NO_EXCEPTION {
-            eid = self.step(memory, lines);
+            Stepped { eid, slot } = self.step(memory, lines);
             steps += 1;
         }
         Answer {
             refusal,
             steps,
             eid,
+            slot,
         }
     }
 }

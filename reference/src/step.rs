@@ -3,9 +3,24 @@
 
 use crate::exception::{Fault, NO_EXCEPTION};
 use crate::memory::{Memory, Width};
-use crate::mmu::Access;
+use crate::mmu::{Access, NO_SLOT};
 use crate::processor::{Processor, PSW_IC};
 use crate::timer;
+
+/// What a step tells: the EID of the exception accepted in it, or 32, and the
+/// slot of its data access, or 33 if it completed none (document 02, job 2).
+#[derive(Clone, Copy, Debug, PartialEq, Eq)]
+pub struct Stepped {
+    pub eid: u32,
+    pub slot: u32,
+}
+
+impl Stepped {
+    /// A step that accepts an exception has no completed access.
+    fn accepted(eid: u32) -> Stepped {
+        Stepped { eid, slot: NO_SLOT }
+    }
+}
 
 /// Sign-extends the low 16 bits.
 fn sign_extend_16(value: u32) -> u32 {
@@ -55,27 +70,29 @@ fn shift_arithmetic(x: u32, count: u32) -> u32 {
 
 impl Processor {
     /// Makes one step (document 01, "One step"), the tick after it and the move
-    /// of the replacement index (document 02, jobs 1 and 4). Answers the EID of
-    /// the exception accepted in it, or 32.
-    pub fn step(&mut self, memory: &mut Memory, lines: u16) -> u32 {
-        let eid = self.effects(memory, lines);
+    /// of the replacement index (document 02, jobs 1 and 4).
+    pub fn step(&mut self, memory: &mut Memory, lines: u16) -> Stepped {
+        let stepped = self.effects(memory, lines);
         self.timer.tick();
         self.move_replacement();
-        eid
+        stepped
     }
 
     /// The effects of the step itself.
-    fn effects(&mut self, memory: &mut Memory, lines: u16) -> u32 {
+    fn effects(&mut self, memory: &mut Memory, lines: u16) -> Stepped {
         if let Some(channel) = self.due_channel(lines) {
             self.accept_interrupt(channel);
-            return channel;
+            return Stepped::accepted(channel);
         }
         let own_pc = self.pc;
         match self.execute(memory) {
-            Ok(()) => NO_EXCEPTION,
+            Ok(slot) => Stepped {
+                eid: NO_EXCEPTION,
+                slot,
+            },
             Err(fault) => {
                 self.accept_fault(own_pc, fault);
-                fault.eid()
+                Stepped::accepted(fault.eid())
             }
         }
     }
@@ -92,29 +109,60 @@ impl Processor {
         }
     }
 
-    fn load(&self, memory: &Memory, address: u32, width: Width) -> Result<u32, Fault> {
-        let physical = self.translate(address, width, Access::Load, self.user_mode())?;
-        match timer::register_at(physical, width) {
-            Some(register) => Ok(self.timer.load(register)),
-            None => memory.load(physical, width),
-        }
+    /// Answers the value and the slot that served the access.
+    fn load(&self, memory: &Memory, address: u32, width: Width) -> Result<(u32, u32), Fault> {
+        let found = self.translate(address, width, Access::Load, self.user_mode())?;
+        let value = match timer::register_at(found.physical, width) {
+            Some(register) => self.timer.load(register),
+            None => memory.load(found.physical, width)?,
+        };
+        Ok((value, found.slot))
     }
 
+    /// Answers the slot that served the access, also where the store changes
+    /// nothing, as in ROM.
     fn store(
         &mut self,
         memory: &mut Memory,
         address: u32,
         width: Width,
         value: u32,
-    ) -> Result<(), Fault> {
-        let physical = self.translate(address, width, Access::Store, self.user_mode())?;
-        match timer::register_at(physical, width) {
-            Some(register) => {
-                self.timer.store(register, value);
-                Ok(())
-            }
-            None => memory.store(physical, width, value),
+    ) -> Result<u32, Fault> {
+        let found = self.translate(address, width, Access::Store, self.user_mode())?;
+        match timer::register_at(found.physical, width) {
+            Some(register) => self.timer.store(register, value),
+            None => memory.store(found.physical, width, value)?,
         }
+        Ok(found.slot)
+    }
+
+    /// Load and store (manual 3.5.1 to 3.5.8) of a register. Answers the slot.
+    fn transfer(
+        &mut self,
+        memory: &mut Memory,
+        opcode: u32,
+        address: u32,
+        number: u32,
+    ) -> Result<u32, Fault> {
+        let stored = self.register(number);
+        let (value, slot) = match opcode {
+            0x30 => self.load(memory, address, Width::Word)?,
+            0x31 => {
+                let (value, slot) = self.load(memory, address, Width::Half)?;
+                (sign_extend_16(value), slot)
+            }
+            0x32 => self.load(memory, address, Width::Half)?,
+            0x33 => {
+                let (value, slot) = self.load(memory, address, Width::Byte)?;
+                (sign_extend_8(value), slot)
+            }
+            0x34 => self.load(memory, address, Width::Byte)?,
+            0x35 => return self.store(memory, address, Width::Word, stored),
+            0x36 => return self.store(memory, address, Width::Half, stored),
+            _ => return self.store(memory, address, Width::Byte, stored),
+        };
+        self.set_register(number, value);
+        Ok(slot)
     }
 
     fn require_kernel_mode(&self) -> Result<(), Fault> {
@@ -133,9 +181,11 @@ impl Processor {
     }
 
     /// Fetches and executes one instruction (manual 3.2). On a fault nothing
-    /// but the PC has changed, which exception entry overwrites.
-    fn execute(&mut self, memory: &mut Memory) -> Result<(), Fault> {
-        let word = self.load(memory, self.pc, Width::Word)?;
+    /// but the PC has changed, which exception entry overwrites. Answers the
+    /// slot of the data access, or 33; that of the fetch is not asked for
+    /// (document 02, job 2).
+    fn execute(&mut self, memory: &mut Memory) -> Result<u32, Fault> {
+        let (word, _) = self.load(memory, self.pc, Width::Word)?;
         self.pc = self.pc.wrapping_add(4);
 
         // Fields of both formats: x, then y and r, or r and an immediate.
@@ -209,29 +259,7 @@ impl Processor {
             }
 
             // Load and store, manual 3.5.1 to 3.5.8
-            0x30 => {
-                let value = self.load(memory, address, Width::Word)?;
-                self.set_register(second, value);
-            }
-            0x31 => {
-                let value = self.load(memory, address, Width::Half)?;
-                self.set_register(second, sign_extend_16(value));
-            }
-            0x32 => {
-                let value = self.load(memory, address, Width::Half)?;
-                self.set_register(second, value);
-            }
-            0x33 => {
-                let value = self.load(memory, address, Width::Byte)?;
-                self.set_register(second, sign_extend_8(value));
-            }
-            0x34 => {
-                let value = self.load(memory, address, Width::Byte)?;
-                self.set_register(second, value);
-            }
-            0x35 => self.store(memory, address, Width::Word, y)?,
-            0x36 => self.store(memory, address, Width::Half, y)?,
-            0x37 => self.store(memory, address, Width::Byte, y)?,
+            0x30..=0x37 => return self.transfer(memory, opcode, address, second),
 
             // System, manual 3.6.1 to 3.6.8
             0x2E => return Err(Fault::Trap),
@@ -267,6 +295,6 @@ impl Processor {
             // 1E, 3E and 3F, the rest of the six bits
             _ => return Err(Fault::IllegalInstruction),
         }
-        Ok(())
+        Ok(NO_SLOT)
     }
 }

@@ -19,6 +19,7 @@ mod programs;
 mod record;
 mod replacement;
 mod runs;
+mod slots;
 mod system;
 mod timer;
 mod timer_access;

@@ -163,6 +163,7 @@ fn run_results() {
         refusal: 0,
         steps: 6,
         eid: 20,
+        slot: 33,
     };
     assert_eq!(answer, expected);
     assert_eq!(get(&rig.ram, 0x20), 1);
@@ -215,7 +216,7 @@ fn run_refusals_in_table_order() {
                 assert_eq!(answer.steps, 6);
                 assert_ne!(after_machine, machine);
             } else {
-                assert_eq!((answer.steps, answer.eid), (0, 32));
+                assert_eq!(answer, Answer::refused(refusal));
                 assert_eq!(after_machine, machine);
                 rig.memory_equals(&after, "refused");
             }
@@ -244,8 +245,11 @@ fn page_views() {
         for machine in [&machine, old] {
             let view = host::page_view(ram, machine, page);
             assert_eq!(view.refusal, refusal, "{causes:05b}");
-            let place = if refusal == 0 { (8192, 4096) } else { (0, 0) };
-            assert_eq!((view.offset, view.length), place);
+            let place = match refusal {
+                0 => (32, 8192, 4096),
+                _ => (33, 0, 0),
+            };
+            assert_eq!((view.slot, view.offset, view.length), place);
         }
     }
 }

@@ -2,7 +2,7 @@
 
 use crate::common;
 use crate::common::Numbers;
-use eco32_reference::{page_view, Processor, TlbEntry};
+use eco32_reference::{page_view, Processor, Stepped, TlbEntry};
 
 /// RAM of three frames with a pattern that differs from frame to frame.
 fn ram() -> Vec<u8> {
@@ -35,16 +35,16 @@ fn machine() -> Processor {
     machine
 }
 
-/// Page and offset of its frame, or nothing for refusal 8.
-const TABLE: [(u64, Option<usize>); 27] = [
-    (0x00000, Some(4096)),
-    (0x12345, Some(8192)),
-    (0x80000, Some(0)),
-    (0xBFFFF, Some(8192)),
-    (0x00006, Some(8192)),
-    (0xC0000, Some(0)),
-    (0xC0001, Some(4096)),
-    (0xC0002, Some(8192)),
+/// Page, its slot and the offset of its frame, or nothing for refusal 8.
+const TABLE: [(u64, Option<(u32, usize)>); 27] = [
+    (0x00000, Some((5, 4096))),
+    (0x12345, Some((6, 8192))),
+    (0x80000, Some((7, 0))),
+    (0xBFFFF, Some((18, 8192))),
+    (0x00006, Some((14, 8192))),
+    (0xC0000, Some((32, 0))),
+    (0xC0001, Some((32, 4096))),
+    (0xC0002, Some((32, 8192))),
     (0xC0003, None),
     (0xDFFFF, None),
     (0xE0000, None),
@@ -76,15 +76,15 @@ fn frames() {
         for (page, frame) in TABLE {
             let view = page_view(&ram, &machine, page);
             match frame {
-                Some(offset) => {
+                Some((slot, offset)) => {
                     assert_eq!(view.refusal, 0, "{page:05X}");
-                    assert_eq!(view.offset, offset, "{page:05X}");
+                    assert_eq!((view.slot, view.offset), (slot, offset), "{page:05X}");
                     assert_eq!(view.part, &ram[offset..offset + 4096]);
                     assert!(std::ptr::eq(view.part.as_ptr(), &ram[offset]));
                 }
                 None => {
                     assert_eq!(view.refusal, 8, "{page:05X}");
-                    assert_eq!((view.offset, view.part.len()), (0, 0));
+                    assert_eq!((view.slot, view.offset, view.part.len()), (33, 0, 0));
                 }
             }
         }
@@ -111,8 +111,8 @@ fn refusals_in_table_order() {
                 };
                 let view = page_view(ram, machine, page);
                 assert_eq!(view.refusal, refusal);
-                let length = if refusal == 0 { 4096 } else { 0 };
-                assert_eq!(view.part.len(), length);
+                let (slot, length) = if refusal == 0 { (32, 4096) } else { (33, 0) };
+                assert_eq!((view.slot, view.part.len()), (slot, length));
             }
         }
     }
@@ -132,7 +132,8 @@ fn view_agrees_with_a_kernel_mode_load() {
         for page in 0..16 {
             let view = page_view(&rig.ram, &rig.cpu, page);
             let mut load = rig.clone().set(1, (page as u32) << 12);
-            let eid = load.step();
+            let Stepped { eid, slot } = load.stepped(0);
+            assert_eq!(view.slot, slot);
             if view.refusal == 0 {
                 assert_eq!(eid, 32);
                 assert_eq!(load.cpu.registers[3], u32::from(view.part[0]));

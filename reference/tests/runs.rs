@@ -4,11 +4,21 @@ use crate::common::{get, Numbers, Rig};
 use eco32_reference::asm::*;
 use eco32_reference::{Answer, Memory, Processor};
 
+/// The answer of a run whose last step has no slot.
 fn answer(refusal: u32, steps: u32, eid: u32) -> Answer {
     Answer {
         refusal,
         steps,
         eid,
+        slot: 33,
+    }
+}
+
+/// That of a run whose last step has a direct-mapped access.
+fn direct(steps: u32) -> Answer {
+    Answer {
+        slot: 32,
+        ..answer(0, steps, 32)
     }
 }
 
@@ -50,7 +60,11 @@ fn plain_run_makes_the_wanted_steps() {
     for wanted in 0..12 {
         let mut rig = counter();
         let mut single = counter();
-        assert_eq!(run(&mut rig, wanted, 0), answer(0, wanted as u32, 32));
+        let expected = match wanted as u32 {
+            3 => direct(3),
+            steps => answer(0, steps, 32),
+        };
+        assert_eq!(run(&mut rig, wanted, 0), expected);
         for _ in 0..wanted {
             single.step();
         }
@@ -72,6 +86,7 @@ fn run_to_exception_stops_behind_the_exception() {
     let table = [
         (0, answer(0, 0, 32)),
         (1, answer(0, 1, 32)),
+        (3, direct(3)),
         (4, answer(0, 4, 32)),
         (5, answer(0, 5, 20)),
         (6, answer(0, 5, 20)),
@@ -139,7 +154,7 @@ fn refusals_in_table_order() {
                 run_to_exception(&mut after, wanted, 0)
             };
             if refusal == 0 {
-                assert_eq!(result, answer(0, 3, 32));
+                assert_eq!(result, direct(3));
                 assert_eq!(get(&after.ram, 0), 1);
             } else {
                 assert_eq!(result, answer(refusal, 0, 32), "{causes:05b}");
@@ -222,7 +237,7 @@ fn a_run_keeps_the_machine_fit() {
         for _ in 0..50 {
             let lines = numbers.next() as u16;
             let result = run(&mut rig, 7, lines);
-            assert_eq!(result, answer(0, 7, 32));
+            assert_eq!((result.refusal, result.steps, result.eid), (0, 7, 32));
             assert!(rig.cpu.fit());
         }
     }

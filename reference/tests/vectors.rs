@@ -33,6 +33,7 @@ impl Machine {
         }
     }
 
+    /// One step; its slot times 256, and its EID.
     fn step(&mut self, lines: u16) -> Result<u32, String> {
         let (refusal, mut processor) = read_record(&self.record);
         if refusal != 0 {
@@ -43,9 +44,9 @@ impl Machine {
             rom: &self.rom,
             belt: &mut self.belt,
         };
-        let eid = processor.step(&mut memory, lines);
+        let stepped = processor.step(&mut memory, lines);
         write_record(&processor, &mut self.record);
-        Ok(eid)
+        Ok(256 * stepped.slot + stepped.eid)
     }
 }
 
@@ -116,11 +117,11 @@ impl Reader {
         Ok(())
     }
 
-    fn step(&mut self, lines: u32, eid: u32) -> Result<(), String> {
+    fn step(&mut self, lines: u32, told: u32) -> Result<(), String> {
         self.counts.steps += 1;
         let lines = u16::try_from(lines).map_err(|_| "lines")?;
-        if self.model.step(lines)? != eid {
-            return Err("EID".to_string());
+        if self.model.step(lines)? != told {
+            return Err("EID or slot".to_string());
         }
         if self.model != self.expected {
             return Err("state".to_string());

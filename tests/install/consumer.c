@@ -23,15 +23,15 @@ static void print_number(const char *name, uint64_t number)
 
 static void print_answer(const char *name, struct eco32_answer answer)
 {
-    printf("%s: refusal %lu, steps %lu, eid %lu\n", name, (unsigned long)answer.refusal, (unsigned long)answer.steps,
-           (unsigned long)answer.eid);
+    printf("%s: refusal %lu, steps %lu, eid %lu, slot %lu\n", name, (unsigned long)answer.refusal,
+           (unsigned long)answer.steps, (unsigned long)answer.eid, (unsigned long)answer.slot);
     printf("TEXT %s, %s\n", eco32_refusal_text(answer.refusal), eco32_exception_name(answer.eid));
 }
 
 static void print_view(const char *name, struct eco32_view view)
 {
-    printf("%s: refusal %lu, offset %lu, length %lu\n", name, (unsigned long)view.refusal, (unsigned long)view.offset,
-           (unsigned long)view.length);
+    printf("%s: refusal %lu, slot %lu, offset %lu, length %lu\n", name, (unsigned long)view.refusal,
+           (unsigned long)view.slot, (unsigned long)view.offset, (unsigned long)view.length);
     printf("TEXT %s\n", eco32_refusal_text(view.refusal));
 }
 
@@ -51,10 +51,21 @@ static void print_layouts(void)
     print_number("eco32_answer.refusal", offsetof(struct eco32_answer, refusal));
     print_number("eco32_answer.steps", offsetof(struct eco32_answer, steps));
     print_number("eco32_answer.eid", offsetof(struct eco32_answer, eid));
+    print_number("eco32_answer.slot", offsetof(struct eco32_answer, slot));
     print_number("eco32_view", sizeof(struct eco32_view));
     print_number("eco32_view.refusal", offsetof(struct eco32_view, refusal));
+    print_number("eco32_view.slot", offsetof(struct eco32_view, slot));
     print_number("eco32_view.offset", offsetof(struct eco32_view, offset));
     print_number("eco32_view.length", offsetof(struct eco32_view, length));
+}
+
+/* Page 00001 in TLB entry 7, valid, for the frame of that number. */
+static void print_mapped(void)
+{
+    machine[ECO32_RECORD_TLB + 8 * 7] = 0;
+    machine[ECO32_RECORD_TLB + 8 * 7 + 2] = machine[ECO32_RECORD_TLB + 8 * 7 + 6] = 0x10;
+    machine[ECO32_RECORD_TLB + 8 * 7 + 7] = 1;
+    print_view("mapped", eco32_page_view(ram, sizeof ram, machine, sizeof machine, 1));
 }
 
 int main(void)
@@ -86,6 +97,7 @@ int main(void)
     print_bytes("ram", ram, 16);
     print_bytes("belt", belt, 16);
     print_view("no view", eco32_page_view(ram, sizeof ram, machine, sizeof machine, 0xC0002));
+    print_mapped();
     print_answer("refused", eco32_run(machine, sizeof machine, ram, sizeof ram - 1, rom, sizeof rom, belt, sizeof belt, 1,
                                       0));
     copy[ECO32_RECORD_REPLACEMENT] = 3;

@@ -13,11 +13,11 @@ with open(HEADER) as file:
 
 
 class Answer(ctypes.Structure):
-    _fields_ = [("refusal", ctypes.c_uint32), ("steps", ctypes.c_uint32), ("eid", ctypes.c_uint32)]
+    _fields_ = [("refusal", ctypes.c_uint32), ("steps", ctypes.c_uint32), ("eid", ctypes.c_uint32), ("slot", ctypes.c_uint32)]
 
 
 class View(ctypes.Structure):
-    _fields_ = [("refusal", ctypes.c_uint32), ("offset", ctypes.c_uint64), ("length", ctypes.c_uint64)]
+    _fields_ = [("refusal", ctypes.c_uint32), ("slot", ctypes.c_uint32), ("offset", ctypes.c_uint64), ("length", ctypes.c_uint64)]
 
 
 def call(name, result, slices, numbers=()):
@@ -88,6 +88,9 @@ words("view", page_view(ram, machine, 0xC0001))
 hexadecimal("ram", ram[:16])
 hexadecimal("belt", belt[:16])
 words("no view", page_view(ram, machine, 0xC0002))
+entry = NUMBER["RECORD_TLB"] + 8 * 7
+machine[entry:entry + 8] = bytes.fromhex("00001000 00001001")
+words("mapped", page_view(ram, machine, 1))
 shorter = (ctypes.c_uint8 * (len(ram) - 1)).from_buffer(ram)
 words("refused", run(machine, shorter, rom, belt, 1, 0))
 copy[NUMBER["RECORD_REPLACEMENT"]] = 3

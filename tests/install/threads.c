@@ -16,6 +16,7 @@ struct cell {
     uint8_t ram[ECO32_FRAME_LENGTH];
     uint8_t belt[ECO32_BELT_LENGTH];
     uint64_t steps;
+    uint64_t slots; /* the slots of all calls, added up: each ends with the load of R2 */
     uint32_t refusals;
 };
 
@@ -45,6 +46,7 @@ static void *work(void *argument)
             eco32_run(cell->machine, sizeof cell->machine, cell->ram, sizeof cell->ram, rom, sizeof rom, cell->belt,
                       sizeof cell->belt, STEPS, 0);
         cell->steps += answer.steps;
+        cell->slots += answer.slot;
         cell->refusals += answer.refusal != ECO32_ACCEPTED;
     }
     return NULL;
@@ -67,7 +69,8 @@ int main(void)
         pthread_join(threads[i], NULL);
     for (int i = 0; i < CELLS; i++)
         if (memcmp(&together[i], &alone[i], sizeof alone[i]) != 0 || alone[i].refusals != 0 ||
-            alone[i].steps != CALLS * STEPS || (i != 0 && memcmp(alone[i].ram, alone[0].ram, 4) == 0)) {
+            alone[i].steps != CALLS * STEPS || alone[i].slots != CALLS * ECO32_DIRECT_MAPPED ||
+            (i != 0 && memcmp(alone[i].ram, alone[0].ram, 4) == 0)) {
             printf("threads: FAILED: cell %d\n", i);
             return 1;
         }

@@ -20,13 +20,14 @@ use Rattle.refusals.specs.Refusal.{runTests, runRefusal}
 use Rattle.refusals.specs.Cause.{OnlyForItsCause, RamLength, RomLength, BeltLength, Steps}
 use Rattle.refusals.proofs.Lengths.{ram-accepted, rom-accepted, belt-accepted, steps-accepted}
 use Rattle.refusals.proofs.Cause.{only-for-its-cause}
-use Rattle.run_loop.specs.Run.{Request, Outcome, counted, countedAll, runFrom, runOf}
+use Rattle.run_loop.specs.Run.{Request, Outcome, counted, countedAll, begun, runFrom, runOf}
 use Rattle.run_calls.specs.Runs.{callTests, callRefusal, machineIn, recorded, called, callOf}
 use Rattle.record.specs.Calls.{recordTests, readRefusal, writeTests, writeRefusal}
 use Rattle.record.proofs.Answers.{readableLength, readable-old, readable-whole}
 use Rattle.record_calls.specs.Records.{resetTests, resetRefusal, copyTests, copyRefusal}
 use Rattle.record_calls.specs.Views.{callViewTests, callViewRefusal, callViewOf}
-use Rattle.page_view.specs.View.{viewTests, viewRefusal, viewOf}
+use Rattle.page_view.specs.View.{lookedUp, viewTests, viewRefusal, viewOf}
+use Rattle.page_view.proofs.Answers.{viewed-refusal}
 use Rattle.acceptance.specs.Claim.{OnlyForCauses, Accepted}
 
 -- ---- runs
@@ -53,7 +54,7 @@ call-answers q s m = go (eqb r 0) refl
     r = callRefusal s m (q .wanted)
 
     go : (t : Bool) → eqb r 0 ≡ t
-        → cond t (recorded (runFrom q (q .wanted) 0 (machineIn s m))) (called s m r 0 32) .answer .refusal ≡ r
+        → cond t (recorded (runFrom q (q .wanted) (begun (machineIn s m) 0))) (called s m r 0 32 33) .answer .refusal ≡ r
     go true e = keeps-the-number q _ _ ∙ sym (eqb-true r 0 e)
     go false e = refl
 
@@ -86,12 +87,15 @@ exported-copy from buffer = only-for-its-cause (copyTests from buffer) refl
 view : (ram : List ℕ) (p : Processor) (page : ℕ)
     → OnlyForItsCause (1 ∷ 6 ∷ 8 ∷ []) (viewTests ram p page) (viewOf ram p page .refusal)
 unfolding viewOf viewRefusal
-view ram p page = only-for-its-cause (viewTests ram p page) refl
+view ram p page =
+    subst (OnlyForItsCause _ (viewTests ram p page)) (sym (viewed-refusal _ (lookedUp p page))) (only-for-its-cause (viewTests ram p page) refl)
 
 exported-view : (ram s : List ℕ) (page : ℕ)
     → OnlyForItsCause (1 ∷ 4 ∷ 5 ∷ 6 ∷ 8 ∷ []) (callViewTests ram s page) (callViewOf ram s page .refusal)
 unfolding callViewOf callViewRefusal
-exported-view ram s page = only-for-its-cause (callViewTests ram s page) refl
+exported-view ram s page =
+    subst (OnlyForItsCause _ (callViewTests ram s page)) (sym (viewed-refusal _ (lookedUp (processorOf s) page)))
+    (only-for-its-cause (callViewTests ram s page) refl)
 
 -- ---- all of them
 

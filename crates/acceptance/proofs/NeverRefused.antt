@@ -27,7 +27,7 @@ use Rattle.step.specs.Step.{look, memoryDone, stepOf}
 use Rattle.step.proofs.StepFit.{step-fit, step-timer-fits}
 use Rattle.refusals.specs.Refusal.{ramAccepted, romAccepted, beltAccepted, runTests}
 use Rattle.refusals.specs.Cause.{AllPass}
-use Rattle.run_loop.specs.Run.{Request, Outcome, runFrom, runOf}
+use Rattle.run_loop.specs.Run.{Request, Outcome, begun, runFrom, runOf}
 use Rattle.run_loop.proofs.Kept.{from-keeps, run-keeps, run-representable, call-representable}
 use Rattle.record.proofs.Held.{held-value, held-timer}
 use Rattle.record.proofs.Fitness.{both-fit}
@@ -41,8 +41,8 @@ use Rattle.acceptance.proofs.Causes.{run, run-answers, call-answers, ex
 -- ---- what every step keeps: the lengths of the lent memory, a fit processor and a fit timer
 
 done-lengths : (m : Memory) (a : Action) → SameLengths (memoryDone m a) m
-done-lengths m (Write n v next) = (refl, refl, refl)
-done-lengths m (Store width physical v) = store-lengths (accessWidth width) m physical v
+done-lengths m (Write n v next slot) = (refl, refl, refl)
+done-lengths m (Store width physical v slot) = store-lengths (accessWidth width) m physical v
 done-lengths m (System i) = (refl, refl, refl)
 done-lengths m (Exception eid address) = (refl, refl, refl)
 
@@ -120,7 +120,7 @@ module _ (q : Request) (s : List ℕ) (m : Memory) (bytes : Bytes s) (ram : Byte
   start = held-representable s m every-byte ram rom belt
 
   end : Outcome
-  end = runFrom q (q .wanted) 0 (machineIn s m)
+  end = runFrom q (q .wanted) (begun (machineIn s m) 0)
 
   module _ (accepted : callOf q s m .answer .refusal ≡ 0) (later : Request) (most : later .wanted ≤ 1000000) where
     all : AllPass (callTests s m (q .wanted))
@@ -133,12 +133,12 @@ module _ (q : Request) (s : List ℕ) (m : Memory) (bytes : Bytes s) (ram : Byte
     left : Sound m (end .machine)
     unfolding end
     left =
-        let begun = fits-mean (machineIn s m .processor) (machineIn s m .timer) (all .1 .1 .1 .1 .1 .0) in
-        from-keeps (Sound m) (step-sound m) q (q .wanted) 0 (machineIn s m) ((refl, refl, refl), begun .0, begun .1)
+        let fits = fits-mean (machineIn s m .processor) (machineIn s m .timer) (all .1 .1 .1 .1 .1 .0) in
+        from-keeps (Sound m) (step-sound m) q (q .wanted) (begun (machineIn s m) 0) ((refl, refl, refl), fits .0, fits .1)
 
     types : Representable (end .machine)
     unfolding end
-    types = run-representable q (q .wanted) 0 (machineIn s m) start
+    types = run-representable q (q .wanted) (begun (machineIn s m) 0) start
 
     exported : callOf later (callOf q s m .buffer) (callOf q s m .memory) .answer .refusal ≡ 0
     exported =

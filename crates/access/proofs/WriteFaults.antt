@@ -19,16 +19,16 @@ store-fault width m value address t h = at-fault _ (λ eid. Exception eid addres
 
 -- ---- a store that is granted, by the place of its physical address
 
-module _ (width : ℕ) (m : Memory) (value address physical : ℕ) (t : Translation) (p : Place) (bytes : ℕ) (same : bytes ≡ width)
-    (granted : t ≡ Physical physical) (place : placeIn bytes m physical ≡ p) where
+module _ (width : ℕ) (m : Memory) (value address physical slot : ℕ) (t : Translation) (p : Place) (bytes : ℕ) (same : bytes ≡ width)
+    (granted : t ≡ Physical physical slot) (place : placeIn bytes m physical ≡ p) where
   answer-of : storeAnswer width m physical ≡ completes p
   answer-of = ap (λ (n : ℕ). storeAnswer n m physical) (sym same) ∙ answer-at bytes m physical p place
 
-  pub store-done : completes p ≡ stored.Done → Store bytes physical value ≡ storeThrough width m value address t
+  pub store-done : completes p ≡ stored.Done → Store bytes physical value slot ≡ storeThrough width m value address t
   store-done done =
-      ap (λ (n : ℕ). Store n physical value) same
-      ∙ sym (ap (storeThrough width m value address) granted ∙ ap (settled width physical value address) (answer-of ∙ done))
+      ap (λ (n : ℕ). Store n physical value slot) same
+      ∙ sym (ap (storeThrough width m value address) granted ∙ ap (settled width physical value slot address) (answer-of ∙ done))
 
   pub store-timeout : completes p ≡ stored.Timeout → Exception 16 address ≡ storeThrough width m value address t
   store-timeout out =
-      sym (ap (storeThrough width m value address) granted ∙ ap (settled width physical value address) (answer-of ∙ out))
+      sym (ap (storeThrough width m value address) granted ∙ ap (settled width physical value slot address) (answer-of ∙ out))

@@ -15,18 +15,18 @@ ghost use Rattle.translation.specs.Translation.{bytesOf};
 ghost use Rattle.access.specs.Writes.{storeTo};
 ghost use Rattle.instructions.specs.Code.{actionOf};
 
-// What a read through the translation brings: a value, or a fault's identifier.
+// What a read through the translation brings: a value and the slot that served it, or a fault's identifier.
 pub enum Read {
-    Value(u32),
+    Value(u32, u32),
     Fault(u32),
 }
 
-// What a load brought: a value, or the bus timeout.
-fn brought(loaded: Loaded) -> Read
-    ensures { λ r. ⌜ r ≡ answered loaded ⌝ }
+// What a load brought through a slot: a value, or the bus timeout.
+fn brought(slot: u32, loaded: Loaded) -> Read
+    ensures { λ r. ⌜ r ≡ answered slot loaded ⌝ }
 {
     match loaded {
-        Loaded::Value(v) => Read::Value(v),
+        Loaded::Value(v) => Read::Value(v, slot),
         Loaded::Timeout => Read::Fault(Processor::BUS_TIMEOUT),
     }
 }
@@ -44,10 +44,10 @@ pub fn read_byte<'a>(
     ensures { λ r. ⌜ r ≡ readFrom 1 (around psw highs lows timer ram rom belt) address ⌝ }
 {
     let place = translation::translate(psw, highs, lows, Width::Byte, false, address);
-    let Translation::Physical(physical) = place else {
+    let Translation::Physical(physical, slot) = place else {
         return Read::Fault(translation::eid_of(place));
     };
-    brought(load_store::load(timer, ram, rom, belt, 1, physical))
+    brought(slot, load_store::load(timer, ram, rom, belt, 1, physical))
 }
 
 pub fn read_half<'a>(
@@ -63,10 +63,10 @@ pub fn read_half<'a>(
     ensures { λ r. ⌜ r ≡ readFrom 2 (around psw highs lows timer ram rom belt) address ⌝ }
 {
     let place = translation::translate(psw, highs, lows, Width::Half, false, address);
-    let Translation::Physical(physical) = place else {
+    let Translation::Physical(physical, slot) = place else {
         return Read::Fault(translation::eid_of(place));
     };
-    brought(load_store::load(timer, ram, rom, belt, 2, physical))
+    brought(slot, load_store::load(timer, ram, rom, belt, 2, physical))
 }
 
 pub fn read_word<'a>(
@@ -82,10 +82,10 @@ pub fn read_word<'a>(
     ensures { λ r. ⌜ r ≡ readFrom 4 (around psw highs lows timer ram rom belt) address ⌝ }
 {
     let place = translation::translate(psw, highs, lows, Width::Word, false, address);
-    let Translation::Physical(physical) = place else {
+    let Translation::Physical(physical, slot) = place else {
         return Read::Fault(translation::eid_of(place));
     };
-    brought(load_store::load(timer, ram, rom, belt, 4, physical))
+    brought(slot, load_store::load(timer, ram, rom, belt, 4, physical))
 }
 
 // The instruction word at the PC, whose page has the index `i`.
@@ -104,10 +104,10 @@ pub fn fetch<'a>(
     ensures { λ r. ⌜ r ≡ readFrom 4 (around psw highs lows timer ram rom belt) pc ⌝ }
 {
     let place = translation::translate_at(psw, highs, lows, i, Width::Word, false, pc);
-    let Translation::Physical(physical) = place else {
+    let Translation::Physical(physical, slot) = place else {
         return Read::Fault(translation::eid_of(place));
     };
-    brought(load_store::load(timer, ram, rom, belt, 4, physical))
+    brought(slot, load_store::load(timer, ram, rom, belt, 4, physical))
 }
 
 fn bytes_of(width: Width) -> u32
@@ -137,15 +137,15 @@ pub fn store<'a>(
 {
     let bytes = bytes_of(width);
     let place = translation::translate(psw, highs, lows, width, true, address);
-    let Translation::Physical(physical) = place else {
-        return Coded::Exception(translation::eid_of(place), address, 0);
+    let Translation::Physical(physical, slot) = place else {
+        return Coded::Exception(translation::eid_of(place), address, 0, 0);
     };
     let answer = memory::place_of(bytes, ram.len(), rom.len(), belt.len(), physical);
     match answer {
-        Place::Ram(_) => Coded::Store(bytes, physical, value),
-        Place::Rom(_) => Coded::Store(bytes, physical, value),
-        Place::Belt(_) => Coded::Store(bytes, physical, value),
-        Place::Timer(_) => Coded::Store(bytes, physical, value),
-        Place::Nothing => Coded::Exception(Processor::BUS_TIMEOUT, address, 0),
+        Place::Ram(_) => Coded::Store(bytes, physical, value, slot),
+        Place::Rom(_) => Coded::Store(bytes, physical, value, slot),
+        Place::Belt(_) => Coded::Store(bytes, physical, value, slot),
+        Place::Timer(_) => Coded::Store(bytes, physical, value, slot),
+        Place::Nothing => Coded::Exception(Processor::BUS_TIMEOUT, address, 0, 0),
     }
 }

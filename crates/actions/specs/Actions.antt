@@ -23,7 +23,7 @@ systemDone Tbwi p = indexedWritten (onward p)
 
 -- what an action makes of the processor
 abbrev pub processorAfter : Processor → Action → Processor
-processorAfter p (Write n v next) = written p n v next
-processorAfter p (Store width physical v) = onward p
+processorAfter p (Write n v next slot) = written p n v next
+processorAfter p (Store width physical v slot) = onward p
 processorAfter p (System i) = systemDone i p
 processorAfter p (Exception eid address) = entered p eid address

@@ -73,15 +73,15 @@ pub fn done(p: Processor, action: Coded) -> Processor
     let next = sums::add(p.pc, 4);
     let moved = p.jump(next);
     match action {
-        Coded::Write(n, v, after) => p.write(n, v, after),
-        Coded::Store(_, _, _) => moved,
-        Coded::Rfx(_, _, _) => p.leave(),
-        Coded::Mvfs(z, n, _) => p.write(n, special(p, z), next),
-        Coded::Mvts(z, v, _) => moved.write_special(z, v),
-        Coded::Tbs(_, _, _) => search(moved),
-        Coded::Tbwr(_, _, _) => moved.write_random(),
-        Coded::Tbri(_, _, _) => read_indexed(moved),
-        Coded::Tbwi(_, _, _) => moved.write_indexed(),
-        Coded::Exception(eid, address, _) => p.enter(eid, address),
+        Coded::Write(n, v, after, _) => p.write(n, v, after),
+        Coded::Store(_, _, _, _) => moved,
+        Coded::Rfx(_, _, _, _) => p.leave(),
+        Coded::Mvfs(z, n, _, _) => p.write(n, special(p, z), next),
+        Coded::Mvts(z, v, _, _) => moved.write_special(z, v),
+        Coded::Tbs(_, _, _, _) => search(moved),
+        Coded::Tbwr(_, _, _, _) => moved.write_random(),
+        Coded::Tbri(_, _, _, _) => read_indexed(moved),
+        Coded::Tbwi(_, _, _, _) => moved.write_indexed(),
+        Coded::Exception(eid, address, _, _) => p.enter(eid, address),
     }
 }

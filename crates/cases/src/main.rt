@@ -1,10 +1,11 @@
 // Document 01's cases that are run, a line for each: lengths, steps, records, page views, each refusal, and their order; and document 02's of
-// the timer and of the replacement index.
+// the timer, of the slots and of the replacement index.
 mod indexes;
 mod lengths;
 mod reads;
 mod records;
 mod runs;
+mod slots;
 mod states;
 mod steps;
 mod text;
@@ -19,6 +20,7 @@ fn main() {
     states::print_machines();
     timers::print_timers();
     indexes::print_indexes();
+    slots::print_slots();
     steps::print_order();
     reads::print_reads();
     writes::print_writes();

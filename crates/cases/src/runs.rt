@@ -16,12 +16,13 @@ fn print_outcome(outcome: Outcome) {
         outcome.refusal as u64,
         outcome.steps as u64,
         outcome.eid as u64,
-        outcome.register as u64,
+        outcome.slot as u64,
     ];
+    text::print_filled(b": refusal #, # steps, EID #, slot #", numbers);
     if outcome.unchanged {
-        text::print_filled(b": refusal #, # steps, EID #, unchanged\n", numbers);
+        text::print(b", unchanged\n");
     } else {
-        text::print_filled(b": refusal #, # steps, EID #, changed, R1 #\n", numbers);
+        text::print_filled(b", changed, R1 #\n", [outcome.register as u64, 0, 0, 0]);
     }
 }
 

@@ -7,6 +7,7 @@ use Rattle.words.specs.Numbers.{truncate, signExtend}
 use Rattle.sums.specs.Sums.{sum}
 use Rattle.shifts.specs.Shifts.{shiftLeft}
 use Rattle.control.specs.Branches.{target, branch}
+use Rattle.tlb.specs.Lookup.{noSlot}
 use Rattle.instructions.specs.Action.{Write}
 
 pub target-by-shift : (width word next : ℕ) → sum next (shiftLeft (signExtend width word) 2) ≡ target width word next
@@ -16,10 +17,10 @@ target-by-shift width word next =
     ∙ ap (λ (n : ℕ). (next + n) % 4294967296) (mul-comm (signExtend width word) 4)
 
 -- a branch goes to its target, or on
-pub branch-taken : (word next : ℕ) → branch true word next ≡ Write 0 0 (target 16 word next)
+pub branch-taken : (word next : ℕ) → branch true word next ≡ Write 0 0 (target 16 word next) noSlot
 unfolding branch
 branch-taken word next = refl
 
-pub branch-not-taken : (word next : ℕ) → branch false word next ≡ Write 0 0 next
+pub branch-not-taken : (word next : ℕ) → branch false word next ≡ Write 0 0 next noSlot
 unfolding branch
 branch-not-taken word next = refl

@@ -4,6 +4,7 @@ use Rattle.comparison.specs.Comparison.{unsignedHolds, signedHolds}
 use Rattle.comparison.specs.declared.Order.the-variants.{Equal, NotEqual, LessOrEqual, Less, GreaterOrEqual, Greater}
 use Rattle.instructions.specs.Operands.{Simple}
 use Rattle.control.specs.Branches.{target, jumpTo, branch}
+use Rattle.tlb.specs.Lookup.{noSlot}
 use Rattle.instructions.specs.Action.{Write}
 
 -- 3.4.1
@@ -56,11 +57,11 @@ JR o = jumpTo (o .x)
 
 -- 3.4.13
 abbrev pub JAL : Simple
-JAL o = Write 31 (o .next) (target 26 (o .word) (o .next))
+JAL o = Write 31 (o .next) (target 26 (o .word) (o .next)) noSlot
 
 -- 3.4.14: its register is read before R31 is written
 abbrev pub JALR : Simple
-JALR o = Write 31 (o .next) (o .x)
+JALR o = Write 31 (o .next) (o .x) noSlot
 
 -- opcodes 20 to 2D
 unfoldable pub controls : List Simple

@@ -26,9 +26,9 @@ pub fn branch(holds: bool, word: u32, next: u32) -> Coded
     ensures { λ r. ⌜ actionOf r ≡ branch holds word next ⌝ }
 {
     if holds {
-        return Coded::Write(0, 0, target_16(word, next));
+        return Coded::Write(0, 0, target_16(word, next), tlb::NO_SLOT);
     }
-    Coded::Write(0, 0, next)
+    Coded::Write(0, 0, next, tlb::NO_SLOT)
 }
 
 // Opcodes 20 to 2D, counted from 0.
@@ -66,10 +66,10 @@ pub fn flow(kind: u32, x: u32, y: u32, word: u32, next: u32) -> Coded
         ),
         8 => branch(comparison::signed_holds(Order::Greater, x, y), word, next),
         9 => branch(comparison::unsigned_holds(Order::Greater, x, y), word, next),
-        10 => Coded::Write(0, 0, target_26(word, next)),
-        11 => Coded::Write(0, 0, x),
-        12 => Coded::Write(31, next, target_26(word, next)),
-        13 => Coded::Write(31, next, x),
-        _ => Coded::Exception(Processor::ILLEGAL_INSTRUCTION, 0, 0),
+        10 => Coded::Write(0, 0, target_26(word, next), tlb::NO_SLOT),
+        11 => Coded::Write(0, 0, x, tlb::NO_SLOT),
+        12 => Coded::Write(31, next, target_26(word, next), tlb::NO_SLOT),
+        13 => Coded::Write(31, next, x, tlb::NO_SLOT),
+        _ => Coded::Exception(Processor::ILLEGAL_INSTRUCTION, 0, 0, 0),
     }
 }

@@ -4,3 +4,4 @@ pub mod Dispatch
 pub mod Named
 pub mod Small
 pub mod Outcomes
+pub mod Accesses

@@ -21,31 +21,31 @@ use Rattle.access.specs.declared.Read.the-variants.{Value, Fault}
 
 -- a fault that is named has a number up to 25
 abbrev pub Named : Action → Type 0
-Named (Write n v next) = Unit {0}
-Named (Store width physical v) = Unit {0}
+Named (Write n v next slot) = Unit {0}
+Named (Store width physical v slot) = Unit {0}
 Named (System i) = Unit {0}
 Named (Exception eid address) = eid ≤ 25
 
 abbrev pub NamedRead : Read → Type 0
-NamedRead (Value v) = Unit {0}
+NamedRead (Value v slot) = Unit {0}
 NamedRead (Fault eid) = eid ≤ 25
 
 -- ---- reads and stores
 
-answered-named : (l : Loaded) → NamedRead (answered l)
-answered-named (loaded.Value v) = tt
-answered-named loaded.Timeout = omega arith
+answered-named : (slot : ℕ) (l : Loaded) → NamedRead (answered slot l)
+answered-named slot (loaded.Value v) = tt
+answered-named slot loaded.Timeout = omega arith
 
 pub read-named : (width : ℕ) (timer : Timer) (m : Memory) (t : Translation) → NamedRead (readThrough width timer m t)
-read-named width timer m t = walk _ Fault NamedRead t (λ a e. answered-named (loadOf width timer m a)) (λ eid low high. high)
+read-named width timer m t = walk _ Fault NamedRead t (λ a slot e. answered-named slot (loadOf width timer m a)) (λ eid low high. high)
 
-settled-named : (width physical value address : ℕ) (r : Stored) → Named (settled width physical value address r)
-settled-named width physical value address stored.Done = tt
-settled-named width physical value address stored.Timeout = omega arith
+settled-named : (width physical value slot address : ℕ) (r : Stored) → Named (settled width physical value slot address r)
+settled-named width physical value slot address stored.Done = tt
+settled-named width physical value slot address stored.Timeout = omega arith
 
 store-named : (width : ℕ) (m : Memory) (value address : ℕ) (t : Translation) → Named (storeThrough width m value address t)
 store-named width m value address t =
-    walk _ _ Named t (λ a e. settled-named width a value address (storeAnswer width m a)) (λ eid low high. high)
+    walk _ _ Named t (λ a slot e. settled-named width a value slot address (storeAnswer width m a)) (λ eid low high. high)
 
 pub stores-named : (width : ℕ) (s : Surroundings) (value address : ℕ) → Named (storeTo width s value address)
 unfolding storeTo

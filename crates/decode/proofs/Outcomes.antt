@@ -35,17 +35,17 @@ use Rattle.decode.proofs.Rows.{Always, executed-always}
 use Rattle.decode.proofs.Named.{Named, NamedRead, read-named, stores-named}
 use Rattle.decode.proofs.Small.{SmallSystem, Small, FitsRead, Holds, read-fits, stores-small}
 
--- a store of 1, 2 or 4 bytes to the physical address that the translation grants
-pub record Granted (s : Surroundings) (width physical : ℕ) : Type 0 where
+-- a store of 1, 2 or 4 bytes to the physical address that the translation grants, by its slot
+pub record Granted (s : Surroundings) (width physical slot : ℕ) : Type 0 where
   pub blocks : ℕ
   pub divides : blocks * width ≡ 4096
   pub own : accessWidth width ≡ width
   pub address : ℕ
-  pub granted : translated (s .psw) (s .highs) (s .lows) width true address ≡ Physical physical
+  pub granted : translated (s .psw) (s .highs) (s .lows) width true address ≡ Physical physical slot
 
 abbrev pub ComesTo : Surroundings → Operands → Action → Type 0
-ComesTo s o (Write n v next) = Holds s → Words o → (v < 2 ^ 32) × (next < 2 ^ 32)
-ComesTo s o (Store width physical v) = Granted s width physical
+ComesTo s o (Write n v next slot) = Holds s → Words o → (v < 2 ^ 32) × (next < 2 ^ 32)
+ComesTo s o (Store width physical v slot) = Granted s width physical slot
 ComesTo s o (System i) = (userMode (s .psw) ≡ false) × (Words o → SmallSystem i)
 ComesTo s o (Exception eid address) = (eid ≤ 25) × (Words o → address < 2 ^ 32)
 
@@ -55,8 +55,8 @@ none = omega arith
 -- ---- computations, branches and jumps
 
 computed : (s : Surroundings) (o : Operands) (a : Action) → Computed o a → ComesTo s o a
-computed s o (Write n v next) h = λ b w. (h .1 w, rw (h .0) (w .next))
-computed s o (Store width physical v) h = absurd h
+computed s o (Write n v next slot) h = λ b w. (h .2 w, rw (h .0) (w .next))
+computed s o (Store width physical v slot) h = absurd h
 computed s o (System i) h = absurd h
 computed s o (Exception eid address) h = (h .0, λ w. rw (h .1) none)
 
@@ -96,25 +96,26 @@ systems-come =
 module _ (s : Surroundings) (o : Operands) where
   landed-comes : (width : ℕ) (extend : ℕ → ℕ) → ((v : ℕ) → v < 256 ^ width → extend v < 2 ^ 32)
       → (r : Read) → NamedRead r → (Holds s → FitsRead width r) → ComesTo s o (landed extend (fieldY (o .word)) (addressOf o) (o .next) r)
-  landed-comes width extend e (Value v) named fits = λ b w. (e v (fits b), w .next)
+  landed-comes width extend e (Value v slot) named fits = λ b w. (e v (fits b), w .next)
   landed-comes width extend e (Fault eid) named fits = (named, λ w. sum-lt _ _)
 
   -- what a store may be
   abbrev Stores : Action → Type 0
-  Stores (Write n v next) = ⊥
-  Stores (Store width physical v) = Granted s width physical
+  Stores (Write n v next slot) = ⊥
+  Stores (Store width physical v slot) = Granted s width physical slot
   Stores (System i) = ⊥
   Stores (Exception eid address) = Unit {0}
 
-  settled-stores : (width physical value address : ℕ) (r : Stored) → Granted s width physical → Stores (settled width physical value address r)
-  settled-stores width physical value address stored.Done g = g
-  settled-stores width physical value address stored.Timeout g = tt
+  settled-stores : (width physical value slot address : ℕ) (r : Stored) → Granted s width physical slot
+      → Stores (settled width physical value slot address r)
+  settled-stores width physical value slot address stored.Done g = g
+  settled-stores width physical value slot address stored.Timeout g = tt
 
   module _ (width blocks : ℕ) (d : blocks * width ≡ 4096) (own : accessWidth width ≡ width) where
     through-stores : (value address : ℕ) (t : Translation) → translated (s .psw) (s .highs) (s .lows) width true address ≡ t
         → Stores (storeThrough width (s .memory) value address t)
     through-stores value address t e =
-        walk _ _ Stores t (λ a granted. settled-stores width a value address (storeAnswer width (s .memory) a)
+        walk _ _ Stores t (λ a slot granted. settled-stores width a value slot address (storeAnswer width (s .memory) a)
         (record { blocks = blocks; divides = d; own = own; address = address; granted = e ∙ granted })) (λ eid low high. tt)
 
     stores-stores : (value address : ℕ) → Stores (storeTo width s value address)
@@ -122,8 +123,8 @@ module _ (s : Surroundings) (o : Operands) where
     stores-stores value address = through-stores value address _ refl
 
   as-store : (a : Action) → Stores a → Named a → Small a → ComesTo s o a
-  as-store (Write n v next) g named small = absurd g
-  as-store (Store width physical v) g named small = g
+  as-store (Write n v next slot) g named small = absurd g
+  as-store (Store width physical v slot) g named small = g
   as-store (System i) g named small = absurd g
   as-store (Exception eid address) g named small = (named, λ w. small)
 
@@ -153,8 +154,8 @@ executed-comes =
     (λ s o. (omega arith, λ w. none))
 
 named : (s : Surroundings) (o : Operands) (a : Action) → ComesTo s o a → Named a
-named s o (Write n v next) h = tt
-named s o (Store width physical v) h = tt
+named s o (Write n v next slot) h = tt
+named s o (Store width physical v slot) h = tt
 named s o (System i) h = tt
 named s o (Exception eid address) h = h .0
 
@@ -162,8 +163,8 @@ pub executed-named : (s : Surroundings) (o : Operands) → Named (executed s o)
 executed-named s o = named s o (executed s o) (executed-comes s o)
 
 small : (s : Surroundings) (o : Operands) → Holds s → Words o → (a : Action) → ComesTo s o a → Small a
-small s o b w (Write n v next) h = h b w
-small s o b w (Store width physical v) h = tt
+small s o b w (Write n v next slot) h = h b w
+small s o b w (Store width physical v slot) h = tt
 small s o b w (System i) h = h .1 w
 small s o b w (Exception eid address) h = h .1 w
 

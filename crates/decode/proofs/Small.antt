@@ -31,25 +31,25 @@ SmallSystem Tbri = Unit {0}
 SmallSystem Tbwi = Unit {0}
 
 abbrev pub Small : Action → Type 0
-Small (Write n v next) = (v < 2 ^ 32) × (next < 2 ^ 32)
-Small (Store width physical v) = Unit {0}
+Small (Write n v next slot) = (v < 2 ^ 32) × (next < 2 ^ 32)
+Small (Store width physical v slot) = Unit {0}
 Small (System i) = SmallSystem i
 Small (Exception eid address) = address < 2 ^ 32
 
 -- ---- reads and stores
 
 abbrev pub FitsRead : ℕ → Read → Type 0
-FitsRead width (Value v) = v < 256 ^ width
+FitsRead width (Value v slot) = v < 256 ^ width
 FitsRead width (Fault eid) = Unit {0}
 
-answered-fits : (width : ℕ) (l : Loaded) → Fits width l → FitsRead width (answered l)
-answered-fits width (loaded.Value v) h = h
-answered-fits width loaded.Timeout h = tt
+answered-fits : (width slot : ℕ) (l : Loaded) → Fits width l → FitsRead width (answered slot l)
+answered-fits width slot (loaded.Value v) h = h
+answered-fits width slot loaded.Timeout h = tt
 
 through-fits : (width : ℕ) (timer : Timer) (m : Memory) → TimerWords timer → Bytewise m → (t : Translation)
     → FitsRead width (readThrough width timer m t)
 through-fits width timer m words b t =
-    walk _ Fault (FitsRead width) t (λ a e. answered-fits width (loadOf width timer m a) (load-fits width timer words m b a)) (λ eid low high. tt)
+    walk _ Fault (FitsRead width) t (λ a slot e. answered-fits width slot (loadOf width timer m a) (load-fits width timer words m b a)) (λ eid low high. tt)
 
 -- the memory holds bytes, and the timer words
 abbrev pub Holds : Surroundings → Type 0
@@ -60,14 +60,14 @@ unfolding readFrom
 read-fits width s address h =
     through-fits width (s .timer) (s .memory) (h .1) (h .0) (translated (s .psw) (s .highs) (s .lows) width false address)
 
-settled-small : (width physical value address : ℕ) (r : Stored) → address < 2 ^ 32 → Small (settled width physical value address r)
-settled-small width physical value address stored.Done h = tt
-settled-small width physical value address stored.Timeout h = h
+settled-small : (width physical value slot address : ℕ) (r : Stored) → address < 2 ^ 32 → Small (settled width physical value slot address r)
+settled-small width physical value slot address stored.Done h = tt
+settled-small width physical value slot address stored.Timeout h = h
 
 store-small : (width : ℕ) (m : Memory) (value address : ℕ) (t : Translation) → address < 2 ^ 32
     → Small (storeThrough width m value address t)
 store-small width m value address t h =
-    walk _ _ Small t (λ a e. settled-small width a value address (storeAnswer width m a) h) (λ eid low high. h)
+    walk _ _ Small t (λ a slot e. settled-small width a value slot address (storeAnswer width m a) h) (λ eid low high. h)
 
 pub stores-small : (width : ℕ) (s : Surroundings) (value address : ℕ) → address < 2 ^ 32 → Small (storeTo width s value address)
 unfolding storeTo

@@ -47,7 +47,7 @@ pub fn execute<'a>(
             next,
         ),
         0x38..=0x3D => system::system(opcode - 0x38, psw, y, word),
-        0x3E..=0x3F => Coded::Exception(Processor::ILLEGAL_INSTRUCTION, 0, 0),
-        _ => Coded::Exception(Processor::ILLEGAL_INSTRUCTION, 0, 0),
+        0x3E..=0x3F => Coded::Exception(Processor::ILLEGAL_INSTRUCTION, 0, 0, 0),
+        _ => Coded::Exception(Processor::ILLEGAL_INSTRUCTION, 0, 0, 0),
     }
 }

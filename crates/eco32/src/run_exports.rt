@@ -14,7 +14,7 @@ pub extern "C" fn eco32_run(
     wanted: u64,
     lines: u16,
 ) -> Answer
-    ensures { λ r. ⌜ called (now (machine .exit)) (left ram rom belt) (r .refusal) (r .steps) (r .eid)
+    ensures { λ r. ⌜ called (now (machine .exit)) (left ram rom belt) (r .refusal) (r .steps) (r .eid) (r .slot)
         ≡ callOf (request plain wanted lines) (now (machine .entry)) (lent ram rom belt) ⌝ }
 {
     run_calls::call(machine, ram, rom, belt, wanted, lines, false)
@@ -29,7 +29,7 @@ pub extern "C" fn eco32_run_to_exception(
     wanted: u64,
     lines: u16,
 ) -> Answer
-    ensures { λ r. ⌜ called (now (machine .exit)) (left ram rom belt) (r .refusal) (r .steps) (r .eid)
+    ensures { λ r. ⌜ called (now (machine .exit)) (left ram rom belt) (r .refusal) (r .steps) (r .eid) (r .slot)
         ≡ callOf (request toException wanted lines) (now (machine .entry)) (lent ram rom belt) ⌝ }
 {
     run_calls::call(machine, ram, rom, belt, wanted, lines, true)

@@ -6,7 +6,7 @@ ghost use Rattle.record_calls.specs.Views.{callViewOf};
 
 #[no_mangle]
 pub extern "C" fn eco32_page_view(ram: &[u8], machine: &[u8], page: u64) -> View
-    ensures { λ r. ⌜ viewed (r .refusal) (r .offset) (r .length) ≡ callViewOf (now (ram .entry)) (now (machine .entry)) page ⌝ }
+    ensures { λ r. ⌜ viewed (r .refusal) (r .slot) (r .offset) (r .length) ≡ callViewOf (now (ram .entry)) (now (machine .entry)) page ⌝ }
 {
     record_calls::page_view(ram, machine, page)
 }

@@ -1,7 +1,7 @@
 -- The expected machine, and whether a machine and an EID agree with it.
 use mathlib.Core.Bool.{Bool, false, cond}
 use mathlib.Core.List.{List}
-use Prim.Native.Nat.{ℕ}
+use Prim.Native.Nat.{ℕ, _/_, _%_}
 use lib.Dec.{eqb}
 use lib.ListN.{length, replicate}
 use denote.Ref.{now}
@@ -43,10 +43,14 @@ unfoldable pub memoryAgrees : Memory → Memory → Bool
 memoryAgrees x m =
     both (same (m .ram) (x .ram)) (both (same (m .rom) (x .rom)) (same (m .belt) (x .belt)))
 
--- the expected EID, the record and all memory, against an EID and a machine
-unfoldable pub agrees : Expected → ℕ → Machine → ℕ → Bool
-agrees x wanted m eid =
-    both (eqb eid wanted) (both (recordAgrees (x .bytes) (m .processor) (m .timer)) (memoryAgrees (x .memory) (m .memory)))
+-- an EID and a slot in one number: 256 times the slot, and the EID
+unfoldable pub toldAgrees : ℕ → ℕ → ℕ → Bool
+toldAgrees wanted eid slot = both (eqb eid (wanted % 256)) (eqb slot (wanted / 256))
+
+-- the expected EID and slot, the record and all memory, against an EID, a slot and a machine
+unfoldable pub agrees : Expected → ℕ → Machine → ℕ → ℕ → Bool
+agrees x wanted m eid slot =
+    both (toldAgrees wanted eid slot) (both (recordAgrees (x .bytes) (m .processor) (m .timer)) (memoryAgrees (x .memory) (m .memory)))
 
 -- ---- commands
 

@@ -3,7 +3,7 @@ use processor::Processor;
 use timer::Timer;
 ghost use mathlib.Core.Path.{_≡_};
 ghost use Rattle.machine.specs.Machine.{before};
-ghost use Rattle.expected.specs.Expected.{expectedLent, expectedLeft, clear, patchFits, patched, recordAgrees, agrees};
+ghost use Rattle.expected.specs.Expected.{expectedLent, expectedLeft, clear, patchFits, patched, recordAgrees, agrees, toldAgrees};
 
 // The reset machine, and memory of zeros.
 pub fn clear(xrecord: &mut [u8], xram: &mut [u8], xrom: &mut [u8], xbelt: &mut [u8])
@@ -46,7 +46,14 @@ fn record_agrees(p: Processor, timer: Timer, xrecord: &[u8]) -> bool
     (refusal == 0) & bytes::same_bytes(&written, xrecord)
 }
 
-// The EID, the record and all memory.
+// `wanted` has the slot, times 256, and the EID.
+fn told_agrees(wanted: u32, eid: u32, slot: u32) -> bool
+    ensures { λ r. ⌜ r ≡ toldAgrees wanted eid slot ⌝ }
+{
+    (eid == wanted % 256) & (slot == wanted / 256)
+}
+
+// The EID and the slot, the record and all memory.
 pub fn agree(
     p: Processor,
     timer: Timer,
@@ -54,15 +61,16 @@ pub fn agree(
     rom: &[u8],
     belt: &[u8],
     eid: u32,
+    slot: u32,
     xrecord: &[u8],
     xram: &[u8],
     xrom: &[u8],
     xbelt: &[u8],
     wanted: u32,
 ) -> bool
-    ensures { λ r. ⌜ r ≡ agrees (expectedLent xrecord xram xrom xbelt) wanted (before p timer ram rom belt) eid ⌝ }
+    ensures { λ r. ⌜ r ≡ agrees (expectedLent xrecord xram xrom xbelt) wanted (before p timer ram rom belt) eid slot ⌝ }
 {
-    (eid == wanted)
+    told_agrees(wanted, eid, slot)
         & record_agrees(p, timer, xrecord)
         & bytes::same_bytes(ram, xram)
         & bytes::same_bytes(rom, xrom)

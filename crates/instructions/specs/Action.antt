@@ -14,10 +14,10 @@ pub data SystemInstruction : Type 0 where
   Tbwi : SystemInstruction
 
 pub data Action : Type 0 where
-  -- a register's number and value, and the PC after the instruction
-  Write : ℕ → ℕ → ℕ → Action
-  -- a width, a physical address and the value; the PC goes on to the next instruction
-  Store : ℕ → ℕ → ℕ → Action
+  -- a register's number and value, the PC after the instruction, and the slot that served a load; of another instruction, the slot for none
+  Write : ℕ → ℕ → ℕ → ℕ → Action
+  -- a width, a physical address, the value, and the slot that served it; the PC goes on to the next instruction
+  Store : ℕ → ℕ → ℕ → ℕ → Action
   -- a privileged instruction in Kernel Mode
   System : SystemInstruction → Action
   -- an exception's identifier and address

@@ -6,6 +6,7 @@ use Rattle.words.specs.Identifiers.{illegalInstruction}
 use lib.ListN.{getD}
 use denote.Ref.{now}
 use Rattle.timer.specs.declared.Timer.{Timer}
+use Rattle.tlb.specs.Lookup.{noSlot}
 use Rattle.memory.specs.Map.{Memory}
 use Rattle.memory.specs.Lent.{Lent, lent}
 use Rattle.instructions.specs.Action.{Action, Write, Exception}
@@ -69,12 +70,12 @@ immediateS o = signExtend 16 (o .word)
 abbrev pub immediateZ : Operands → ℕ
 immediateZ o = zeroExtend 16 (o .word)
 
--- a result into the register of bits 15..11, or of bits 20..16
+-- a result into the register of bits 15..11, or of bits 20..16; no data access
 abbrev pub intoR : Operands → ℕ → Action
-intoR o v = Write (fieldR (o .word)) v (o .next)
+intoR o v = Write (fieldR (o .word)) v (o .next) noSlot
 
 abbrev pub intoY : Operands → ℕ → Action
-intoY o v = Write (fieldY (o .word)) v (o .next)
+intoY o v = Write (fieldY (o .word)) v (o .next) noSlot
 
 -- a fault that leaves no address
 abbrev pub fault : ℕ → Action

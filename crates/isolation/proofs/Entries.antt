@@ -14,7 +14,7 @@ use Rattle.record_layout.proofs.Written.{record-length}
 use Rattle.record.proofs.WrittenRead.{Value, holds}
 use Rattle.machine.specs.Machine.{Machine, Words32, Representable}
 use Rattle.refusals.specs.Refusal.{runRefusal}
-use Rattle.run_loop.specs.Run.{Request, Outcome, stepsOf, runFrom, refused, runOf}
+use Rattle.run_loop.specs.Run.{Request, Outcome, stepsOf, begun, runFrom, runOf}
 use Rattle.run_loop.proofs.Loop.{run-is}
 use Rattle.run_loop.proofs.Kept.{run-representable}
 use Rattle.run_calls.specs.Runs.{machineIn, recorded, called, callRefusal, callSteps, callOf}
@@ -66,8 +66,8 @@ handed-back : (o : Outcome) → Representable (o .machine) → handedBack (recor
 handed-back o r = λ i. record { machine = machine-is (o .machine) r i; answer = o .answer }
 
 handed-refused : (m : Machine) (number : ℕ) → Representable m
-    → handedBack (called (recordOf (m .processor) (m .timer)) (m .memory) number 0 32) ≡ refused m number
-handed-refused m number r = λ i. record { machine = machine-is m r i; answer = refused m number .answer }
+    → handedBack (called (recordOf (m .processor) (m .timer)) (m .memory) number 0 32 33) ≡ begun m number
+handed-refused m number r = λ i. record { machine = machine-is m r i; answer = begun m number .answer }
 
 module _ (q : Request) (m : Machine) (r : Representable m) where
   exported-outcome : outcomeBy Exported q m ≡ runOf q m
@@ -75,9 +75,10 @@ module _ (q : Request) (m : Machine) (r : Representable m) where
   exported-outcome = rw (refusal-is m r (q .wanted), machine-is m r, run-is q m) (go (eqb (runRefusal m (q .wanted)) 0))
     where
       go : (t : Bool)
-          → handedBack (cond t (recorded (runFrom q (q .wanted) 0 m)) (called (recordOf (m .processor) (m .timer)) (m .memory) (runRefusal m (q .wanted)) 0 32))
-          ≡ cond t (runFrom q (q .wanted) 0 m) (refused m (runRefusal m (q .wanted)))
-      go true = handed-back (runFrom q (q .wanted) 0 m) (run-representable q (q .wanted) 0 m r)
+          → handedBack (cond t (recorded (runFrom q (q .wanted) (begun m 0)))
+          (called (recordOf (m .processor) (m .timer)) (m .memory) (runRefusal m (q .wanted)) 0 32 33))
+          ≡ cond t (runFrom q (q .wanted) (begun m 0)) (begun m (runRefusal m (q .wanted)))
+      go true = handed-back (runFrom q (q .wanted) (begun m 0)) (run-representable q (q .wanted) (begun m 0) r)
       go false = handed-refused m (runRefusal m (q .wanted)) r
 
   exported-steps : stepsBy Exported q m ≡ stepsOf q m

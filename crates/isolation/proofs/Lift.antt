@@ -12,7 +12,7 @@ use Rattle.processor.specs.declared.Processor.{Processor}
 use Rattle.instructions.specs.Action.{Action, Write, Store, System, Exception}
 use Rattle.machine.specs.Machine.{Machine, Representable}
 use Rattle.memory.specs.Access.{accessWidth}
-use Rattle.step.specs.Step.{look, memoryDone, Stepped, stepOf}
+use Rattle.step.specs.Step.{look, memoryDone, Event, Stepped, stepOf}
 use Rattle.refusals.specs.Refusal.{runTests, runRefusal}
 use Rattle.refusals.proofs.FirstFailed.{all-pass}
 use Rattle.refusals.proofs.Lengths.{ram-accepted, rom-accepted}
@@ -20,13 +20,13 @@ use Rattle.run_loop.specs.Run.{Request, ends, stepsFrom}
 use Rattle.step.proofs.StepRepresentable.{step-representable}
 use Rattle.isolation.specs.Trace.{Made, inUserMode}
 use Rattle.isolation.specs.Claim.{Held, Alike}
-use Rattle.isolation.proofs.UserStep.{step-held, step-alike, eid-alike}
+use Rattle.isolation.proofs.UserStep.{step-held, step-alike, event-alike}
 
 -- ---- no two memories share an address while a run is made
 
 done-apart : (m : Memory) (a : Action) → Apart m → Apart (memoryDone m a)
-done-apart m (Write n v next) h = h
-done-apart m (Store width physical v) h =
+done-apart m (Write n v next slot) h = h
+done-apart m (Store width physical v slot) h =
     let l = store-lengths (accessWidth width) m physical v in
     (omega (arith, l .0, h .0), omega (arith, l .1, h .1))
 done-apart m (System i) h = h
@@ -73,10 +73,10 @@ module _ (start : Machine) where
           second = step-representable n lines (b .second);
         }
 
-    eid-both : (m n : Machine) → Both start m n → inUserMode m ≡ true → Apart (m .memory) → Apart (n .memory)
-        → stepOf m lines .event .eid ≡ stepOf n lines .event .eid
-    eid-both m n b user apart apart′ =
-        eid-alike (start .processor) m n (b .alike) (b .held .tlbhigh) (b .held .tlblow) user apart apart′ lines
+    event-both : (m n : Machine) → Both start m n → inUserMode m ≡ true → Apart (m .memory) → Apart (n .memory)
+        → stepOf m lines .event ≡ stepOf n lines .event
+    event-both m n b user apart apart′ =
+        event-alike (start .processor) m n (b .alike) (b .held .tlbhigh) (b .held .tlblow) user apart apart′ lines
 
   -- ---- the steps of a run from two machines
 
@@ -86,7 +86,7 @@ module _ (start : Machine) where
   Agree m n [] (t ∷ ts) = ⊥
   Agree m n (s ∷ ss) [] = ⊥
   Agree m n (s ∷ ss) (t ∷ ts) =
-      inUserMode m ≡ true → (s .event .eid ≡ t .event .eid) × Both start (s .machine) (t .machine) × Agree (s .machine) (t .machine) ss ts
+      inUserMode m ≡ true → (s .event ≡ t .event) × Both start (s .machine) (t .machine) × Agree (s .machine) (t .machine) ss ts
 
   pub steps-agree : (q : Request) (k : ℕ) (m n : Machine) → Both start m n → Apart (m .memory) → Apart (n .memory)
       → Agree m n (stepsFrom q k m) (stepsFrom q k n)
@@ -94,9 +94,9 @@ module _ (start : Machine) where
   steps-agree q zero m n b apart apart′ = tt
   steps-agree q (suc k) m n b apart apart′ = λ user.
       let b′ = step-both (q .lines) m n b user apart apart′ in
-      let same = eid-both (q .lines) m n b user apart apart′ in
+      let same = event-both (q .lines) m n b user apart apart′ in
       let rest = steps-agree q k m′ n′ b′ (step-apart m (q .lines) apart) (step-apart n (q .lines) apart′) in
-      (same, b′, subst (λ (e : ℕ). Agree m′ n′ (left (ends (q .kind) x) m′) (left (ends (q .kind) e) n′)) same (go (ends (q .kind) x) rest))
+      (same, b′, subst (λ (e : Event). Agree m′ n′ (left (ends (q .kind) (x .eid)) m′) (left (ends (q .kind) (e .eid)) n′)) same (go (ends (q .kind) (x .eid)) rest))
     where
       m′ : Machine
       m′ = stepOf m (q .lines) .machine
@@ -104,8 +104,8 @@ module _ (start : Machine) where
       n′ : Machine
       n′ = stepOf n (q .lines) .machine
 
-      x : ℕ
-      x = stepOf m (q .lines) .event .eid
+      x : Event
+      x = stepOf m (q .lines) .event
 
       -- the steps after this one
       left : Bool → Machine → List Stepped

@@ -10,7 +10,7 @@ use Rattle.words.specs.Lists.{Pairwise}
 use Rattle.machine.specs.Machine.{Machine}
 use Rattle.step.specs.Step.{Stepped}
 use Rattle.refusals.specs.Refusal.{runRefusal}
-use Rattle.run_loop.specs.Run.{Request, Outcome, answer, ends, stepsFrom, stepsOf, counted, countedAll, refused, runOf}
+use Rattle.run_loop.specs.Run.{Request, Outcome, answer, ends, stepsFrom, stepsOf, counted, countedAll, begun, runOf}
 use Rattle.isolation.specs.Trace.{Call, Made, inUserMode, madeWith, callOutcome, callTrace, upToLeaving, madeInUserMode}
 use Rattle.isolation.proofs.Entries.{outcome-is, trace-is}
 use Rattle.isolation.proofs.Lift.{Both, BothAfter, mode-same, refusal-same, accepted-parts, Agree, steps-agree}
@@ -26,10 +26,10 @@ module _ (start : Machine) where
     made ss = madeWith (q .lines) ss
 
     -- two outcomes with the same answer, one step with the same event further on
-    same-counted : (o p : Outcome) (s t : Stepped) → o .answer ≡ p .answer → s .event .eid ≡ t .event .eid
+    same-counted : (o p : Outcome) (s t : Stepped) → o .answer ≡ p .answer → s .event ≡ t .event
         → counted q o s .answer ≡ counted q p t .answer
     same-counted o p s t a e = λ i.
-        answer (a i .refusal) (suc (a i .steps)) (cond (ends (q .kind) (e i)) (e i) 32)
+        answer (a i .refusal) (suc (a i .steps)) (cond (ends (q .kind) (e i .eid)) (e i .eid) 32) (e i .slot)
 
     steps-end : (o p : Outcome) (ss ts : List Stepped) → Both start (o .machine) (p .machine) → o .answer ≡ p .answer
         → Agree start (o .machine) (p .machine) ss ts
@@ -111,16 +111,16 @@ module _ (start : Machine) where
 
     -- before any step
     before-m : Outcome
-    before-m = refused m (runRefusal m (q .wanted))
+    before-m = begun m (runRefusal m (q .wanted))
 
     before-n : Outcome
-    before-n = refused n (runRefusal n (q .wanted))
+    before-n = begun n (runRefusal n (q .wanted))
 
     pub call-ends : Ended (madeInUserMode m (callTrace c m)) (madeInUserMode n (callTrace c n)) (callOutcome c m) (callOutcome c n)
     unfolding runOf before-m before-n
     call-ends =
         rw (trace-is c m (b .first), trace-is c n (b .second), outcome-is c m (b .first), outcome-is c n (b .second))
-        (steps-end q before-m before-n (stepsOf q m) (stepsOf q n) b (λ i. answer (sym same i) 0 32) agree)
+        (steps-end q before-m before-n (stepsOf q m) (stepsOf q n) b (λ i. answer (sym same i) 0 32 33) agree)
 
     pub call-pairs : inUserMode m ≡ true → (xs ys : List Made) → Onward q (callOutcome c m .machine) (callOutcome c n .machine) xs ys
         → Pairs q (callTrace c m ++ xs) (callTrace c n ++ ys)

@@ -44,18 +44,18 @@ aligned-in-frame w k f a e h =
 
 -- ---- a granted access lies in a frame that its page reaches
 
-module _ (p : Processor) (width blocks : ℕ) (store : Bool) (address physical : ℕ) (divides : blocks * width ≡ 4096)
-    (g : Granted (p .tlbhigh) (p .tlblow) width store address physical) where
+module _ (p : Processor) (width blocks : ℕ) (store : Bool) (address physical slot : ℕ) (divides : blocks * width ≡ 4096)
+    (g : Granted (p .tlbhigh) (p .tlblow) width store address physical slot) where
   granted-frame : frameAt physical ≡ frameOf (lowWord p (pageOf address))
-  granted-frame = omega (arith, g .place)
+  granted-frame = omega (arith, g .mapped .place)
 
   physical-aligned : physical % width ≡ 0
   physical-aligned =
-      ap (λ (n : ℕ). n % width) (g .place)
+      ap (λ (n : ℕ). n % width) (g .mapped .place)
       ∙ aligned-in-frame width blocks (frameOf (lowWord p (pageOf address))) address divides (g .aligned)
 
   granted-page : ValidUserPage p (pageOf address) (frameAt physical)
-  granted-page = record { user = g .below; found = g .found; allowed = g .allowed; names = sym granted-frame }
+  granted-page = record { user = g .below; found = g .mapped .found; allowed = g .mapped .allowed; names = sym granted-frame }
 
   each-frame : (i : ℕ) → i < width → frameAt (physical + i) ≡ frameAt physical
   each-frame i h = one-frame width blocks physical i divides physical-aligned h
@@ -64,7 +64,7 @@ module _ (p : Processor) (width blocks : ℕ) (store : Bool) (address physical :
   byte-reached i h = subst (Reached p) (sym (each-frame i h)) (pageOf address, granted-page)
 
   pub access-writable : store ≡ true → ReachedWritable p (frameAt physical)
-  access-writable e = (pageOf address, granted-page, g .may-write e)
+  access-writable e = (pageOf address, granted-page, g .mapped .may-write e)
 
   pub byte-writable : store ≡ true → (i : ℕ) → i < width → ReachedWritable p (frameAt (physical + i))
   byte-writable e i h = subst (ReachedWritable p) (sym (each-frame i h)) (access-writable e)
@@ -84,10 +84,10 @@ module _ (p : Processor) (timer : Timer) (user : userMode (p .psw) ≡ true) (m 
 
   reads-through : (width blocks address : ℕ) → blocks * width ≡ 4096 → (r : Translation)
       → translated (p .psw) (p .tlbhigh) (p .tlblow) width false address ≡ r → readThrough width timer m r ≡ readThrough width timer n r
-  reads-through width blocks address d (Physical a) e =
-      let g = user-granted (p .psw) (p .tlbhigh) (p .tlblow) width false address a user e in
-      ap answered (load-same m n apart apart′ lengths timer width a
-      (λ i h. same .bytes (a + i) (byte-reached p width blocks false address a d g i h)))
+  reads-through width blocks address d (Physical a slot) e =
+      let g = user-granted (p .psw) (p .tlbhigh) (p .tlblow) width false address a slot user e in
+      ap (answered slot) (load-same m n apart apart′ lengths timer width a
+      (λ i h. same .bytes (a + i) (byte-reached p width blocks false address a slot d g i h)))
   reads-through width blocks address d TlbMiss e = refl
   reads-through width blocks address d TlbWrite e = refl
   reads-through width blocks address d TlbInvalid e = refl
@@ -105,7 +105,7 @@ module _ (p : Processor) (timer : Timer) (user : userMode (p .psw) ≡ true) (m 
 
   stores-through : (width value address : ℕ) (r : Translation)
       → storeThrough width m value address r ≡ storeThrough width n value address r
-  stores-through width value address (Physical a) = ap (settled width a value address) (answers width a)
+  stores-through width value address (Physical a slot) = ap (settled width a value slot address) (answers width a)
   stores-through width value address TlbMiss = refl
   stores-through width value address TlbWrite = refl
   stores-through width value address TlbInvalid = refl
@@ -118,7 +118,7 @@ module _ (p : Processor) (timer : Timer) (user : userMode (p .psw) ≡ true) (m 
       stores-through width value address (translated (p .psw) (p .tlbhigh) (p .tlblow) width true address)
 
   decoded-same : (r : Read) → decoded s (p .registers) (p .pc) r ≡ decoded t (p .registers) (p .pc) r
-  decoded-same (Value word) =
+  decoded-same (Value word slot) =
       executed-same (p .psw) (p .tlbhigh) (p .tlblow) timer m n reads stores (operandsOf (p .registers) (p .pc) word)
   decoded-same (Fault eid) = refl
 

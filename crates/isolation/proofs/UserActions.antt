@@ -9,15 +9,15 @@ use Rattle.decode.proofs.Outcomes.{Granted, ComesTo, executed-comes}
 
 -- what an instruction in User Mode may do
 abbrev pub UserAction : Surroundings → Action → Type 0
-UserAction s (Write n v next) = Unit {0}
-UserAction s (Store width physical v) = Granted s width physical
+UserAction s (Write n v next slot) = Unit {0}
+UserAction s (Store width physical v slot) = Granted s width physical slot
 UserAction s (System i) = ⊥
 UserAction s (Exception eid address) = Unit {0}
 
 module _ (s : Surroundings) (user : userMode (s .psw) ≡ true) where
   allowed : (o : Operands) (a : Action) → ComesTo s o a → UserAction s a
-  allowed o (Write n v next) h = tt
-  allowed o (Store width physical v) h = h
+  allowed o (Write n v next slot) h = tt
+  allowed o (Store width physical v slot) h = h
   allowed o (System i) h = absurd (true≢false (sym user ∙ h .0))
   allowed o (Exception eid address) h = tt
 

@@ -30,7 +30,7 @@ use Rattle.access.specs.declared.Read.the-variants.{Value, Fault}
 use Rattle.machine.specs.Machine.{Machine}
 use Rattle.look.specs.Look.{operandsOf, decoded, lookFrom}
 use Rattle.actions.specs.Actions.{processorAfter}
-use Rattle.step.specs.Step.{surroundingsOf, look, timerDone, memoryDone, done, stepOf, eidOf}
+use Rattle.step.specs.Step.{surroundingsOf, look, timerDone, memoryDone, done, told, stepOf}
 use Rattle.isolation.specs.Frames.{frameAt, lowWord, ValidUserPage, Reached, ReachedWritable, TimerNotWritable, SameIn}
 use Rattle.isolation.specs.Trace.{inUserMode}
 use Rattle.isolation.specs.Claim.{Specials, Left, Held, Alike}
@@ -43,7 +43,7 @@ use Rattle.isolation.proofs.SameStores.{store-same}
 
 decoded-user : (m : Machine) → inUserMode m ≡ true → (r : Read)
     → UserAction (surroundingsOf m) (decoded (surroundingsOf m) (m .processor .registers) (m .processor .pc) r)
-decoded-user m user (Value word) = executed-user (surroundingsOf m) user (operandsOf (m .processor .registers) (m .processor .pc) word)
+decoded-user m user (Value word slot) = executed-user (surroundingsOf m) user (operandsOf (m .processor .registers) (m .processor .pc) word)
 decoded-user m user (Fault eid) = tt
 
 pub look-user : (m : Machine) (lines : ℕ) → inUserMode m ≡ true → UserAction (surroundingsOf m) (look m lines)
@@ -92,11 +92,11 @@ module _ (p q : Processor) (high : p .tlbhigh ≡ q .tlbhigh) (low : p .tlblow �
 
 module _ (start m : Machine) (held : Held start m) (user : inUserMode m ≡ true) (lines : ℕ) where
   -- a granted store keeps every frame that is not reached writable
-  stored : (width physical v : ℕ) → Granted (surroundingsOf m) width physical
+  stored : (width physical v slot : ℕ) → Granted (surroundingsOf m) width physical slot
       → SameIn (λ frame. ReachedWritable (start .processor) frame → ⊥) (memoryAfter (accessWidth width) (m .memory) physical v) (start .memory)
-  stored width physical v g =
+  stored width physical v slot g =
       let l = store-lengths width (m .memory) physical v in
-      let granted = user-granted (m .processor .psw) (m .processor .tlbhigh) (m .processor .tlblow) width true (g .address) physical user (g .granted) in
+      let granted = user-granted (m .processor .psw) (m .processor .tlbhigh) (m .processor .tlblow) width true (g .address) physical slot user (g .granted) in
       subst (λ (w : ℕ). SameIn (λ frame. ReachedWritable (start .processor) frame → ⊥) (memoryAfter w (m .memory) physical v) (start .memory)) (sym (g .own))
       (record {
         ram = l .0 ∙ held .frames .ram;
@@ -106,13 +106,13 @@ module _ (start m : Machine) (held : Held start m) (user : inUserMode m ≡ true
             store-keeps width (m .memory) physical v j
             (λ i h e. not (writable-by-tlb (m .processor) (start .processor) (held .tlbhigh) (held .tlblow) (frameAt j)
             (subst (λ (a : ℕ). ReachedWritable (m .processor) (frameAt a)) (sym e)
-            (byte-writable (m .processor) width (g .blocks) true (g .address) physical (g .divides) granted refl i h))))
+            (byte-writable (m .processor) width (g .blocks) true (g .address) physical slot (g .divides) granted refl i h))))
             ∙ held .frames .bytes j not;
       })
 
   held-after : (a : Action) → UserAction (surroundingsOf m) a → Held start (done m a)
   unfolding written jumped entered
-  held-after (Write n v next) u =
+  held-after (Write n v next slot) u =
       record {
         tlbhigh = held .tlbhigh;
         tlblow = held .tlblow;
@@ -120,12 +120,12 @@ module _ (start m : Machine) (held : Held start m) (user : inUserMode m ≡ true
         frames = held .frames;
         staying = λ _. held .staying user;
       }
-  held-after (Store width physical v) u =
+  held-after (Store width physical v slot) u =
       record {
         tlbhigh = held .tlbhigh;
         tlblow = held .tlblow;
         rom = store-rom (accessWidth width) (m .memory) physical v ∙ held .rom;
-        frames = stored width physical v u;
+        frames = stored width physical v slot u;
         staying = λ _. held .staying user;
       }
   held-after (System i) u = absurd u
@@ -144,10 +144,10 @@ module _ (start m : Machine) (held : Held start m) (user : inUserMode m ≡ true
 
   -- unless the timer's frame is reached writable, a step ticks the timer and does no more to it
   timer-kept : TimerNotWritable (start .processor) → (a : Action) → UserAction (surroundingsOf m) a → timerDone (m .timer) (m .memory) a ≡ m .timer
-  timer-kept closed (Write n v next) u = refl
-  timer-kept closed (Store width physical v) g =
-      let granted = user-granted (m .processor .psw) (m .processor .tlbhigh) (m .processor .tlblow) width true (g .address) physical user (g .granted) in
-      let reached = access-writable (m .processor) width (g .blocks) true (g .address) physical (g .divides) granted refl in
+  timer-kept closed (Write n v next slot) u = refl
+  timer-kept closed (Store width physical v slot) g =
+      let granted = user-granted (m .processor .psw) (m .processor .tlbhigh) (m .processor .tlblow) width true (g .address) physical slot user (g .granted) in
+      let reached = access-writable (m .processor) width (g .blocks) true (g .address) physical slot (g .divides) granted refl in
       store-keeps-timer (accessWidth width) (m .memory) physical v (m .timer)
       (λ at low e. closed (writable-by-tlb (m .processor) (start .processor) (held .tlbhigh) (held .tlblow) (frameAt timerBase)
       (subst (ReachedWritable (m .processor)) (omega arith) reached)))
@@ -162,8 +162,8 @@ module _ (start m : Machine) (held : Held start m) (user : inUserMode m ≡ true
   left-after : (a : Action) → UserAction (surroundingsOf m) a → look m lines ≡ a → inUserMode (done m a) ≡ false
       → Left start m (record { lines = lines; machine = done m a })
   unfolding written jumped entered enteredSpecials
-  left-after (Write n v next) u e out = absurd (true≢false (sym user ∙ out))
-  left-after (Store width physical v) u e out = absurd (true≢false (sym user ∙ out))
+  left-after (Write n v next slot) u e out = absurd (true≢false (sym user ∙ out))
+  left-after (Store width physical v slot) u e out = absurd (true≢false (sym user ∙ out))
   left-after (System i) u e out = absurd u
   left-after (Exception eid address) u e out =
       record {
@@ -185,15 +185,15 @@ module _ (start m : Machine) (held : Held start m) (user : inUserMode m ≡ true
 -- ---- confidentiality
 
 memory-alike : (F : ℕ → Type 0) (m n : Memory) → SameIn F m n → (a : Action) → SameIn F (memoryDone m a) (memoryDone n a)
-memory-alike F m n same (Write r v next) = same
-memory-alike F m n same (Store width physical v) = store-same (accessWidth width) physical v F m n same
+memory-alike F m n same (Write r v next slot) = same
+memory-alike F m n same (Store width physical v slot) = store-same (accessWidth width) physical v F m n same
 memory-alike F m n same (System i) = same
 memory-alike F m n same (Exception eid address) = same
 
 -- the sizes alone say where a store goes
 timer-alike : (t : Timer) (F : ℕ → Type 0) (m n : Memory) → SameIn F m n → (a : Action) → timerDone t m a ≡ timerDone t n a
-timer-alike t F m n same (Write r v next) = refl
-timer-alike t F m n same (Store width physical v) = timer-after-same m n (same .ram, same .rom, same .belt) (accessWidth width) t physical v
+timer-alike t F m n same (Write r v next slot) = refl
+timer-alike t F m n same (Store width physical v slot) = timer-after-same m n (same .ram, same .rom, same .belt) (accessWidth width) t physical v
 timer-alike t F m n same (System i) = refl
 timer-alike t F m n same (Exception eid address) = refl
 
@@ -221,9 +221,10 @@ module _ (q : Processor) (m n : Machine) (alike : Alike q m n)
       look-same (m .processor) (m .timer) user (m .memory) (n .memory) apart apart′ own lines
       ∙ ap (λ (k : Machine). look k lines) n-is
 
-  pub eid-alike : stepOf m lines .event .eid ≡ stepOf n lines .event .eid
+  -- the exception and the slot that a step tells
+  pub event-alike : stepOf m lines .event ≡ stepOf n lines .event
   unfolding stepOf
-  eid-alike = ap eidOf look-alike
+  event-alike = ap told look-alike
 
   pub step-alike : Alike q (stepOf m lines .machine) (stepOf n lines .machine)
   unfolding stepOf

@@ -16,9 +16,9 @@ use Rattle.access.specs.declared.Read.the-variants.{Value, Fault}
 abbrev pub operandsOf : List ℕ → ℕ → ℕ → Operands
 operandsOf registers pc word = operandsIn registers word (sum pc 4)
 
--- what is done with the fetched word, or with the fault of the fetch
+-- what is done with the fetched word, or with the fault of the fetch; a step does not tell the fetch's slot
 abbrev pub decoded : Surroundings → List ℕ → ℕ → Read → Action
-decoded s registers pc (Value word) = executed s (operandsOf registers pc word)
+decoded s registers pc (Value word slot) = executed s (operandsOf registers pc word)
 decoded s registers pc (Fault eid) = Exception eid pc
 
 -- an interrupt first; otherwise the instruction at the PC

@@ -60,11 +60,11 @@ pub fn look_at<'a>(
 {
     let channel = accepted(psw, lines);
     if channel < Processor::NO_EXCEPTION {
-        return Coded::Exception(channel, 0, 0);
+        return Coded::Exception(channel, 0, 0, 0);
     }
     let fetched = access::fetch(psw, highs, lows, i, timer, ram, rom, belt, pc);
     match fetched {
-        Read::Value(word) => decode::execute(
+        Read::Value(word, _) => decode::execute(
             registers,
             psw,
             highs,
@@ -76,6 +76,6 @@ pub fn look_at<'a>(
             word,
             sums::add(pc, 4),
         ),
-        Read::Fault(eid) => Coded::Exception(eid, pc, 0),
+        Read::Fault(eid) => Coded::Exception(eid, pc, 0, 0),
     }
 }

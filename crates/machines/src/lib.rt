@@ -20,6 +20,7 @@ pub struct Outcome {
     pub refusal: u32,
     pub steps: u32,
     pub eid: u32,
+    pub slot: u32,
     pub unchanged: bool,
     pub register: u32,
     pub replacement: u32,
@@ -48,7 +49,7 @@ fn run_of_kind(
     belt: &mut [u8],
     wanted: u64,
 ) -> Ran
-    ensures { λ r. ⌜ outcome (after (r .processor) (r .timer) ram rom belt) (r .refusal) (r .steps) (r .eid)
+    ensures { λ r. ⌜ outcome (after (r .processor) (r .timer) ram rom belt) (r .refusal) (r .steps) (r .eid) (r .slot)
         ≡ ran kind (before p timer ram rom belt) wanted ⌝ }
 {
     if kind {
@@ -69,7 +70,7 @@ pub fn run(
     ramcopy: &[u8],
     beltcopy: &[u8],
 ) -> Outcome
-    ensures answer { λ r. ⌜ answer (r .refusal) (r .steps) (r .eid) ≡ ran kind (before p timer ram rom belt) wanted .answer ⌝ }
+    ensures answer { λ r. ⌜ answer (r .refusal) (r .steps) (r .eid) (r .slot) ≡ ran kind (before p timer ram rom belt) wanted .answer ⌝ }
     ensures unchanged { λ r. ⌜ r .unchanged
         ≡ sameMachine p timer (now (ramcopy .entry)) (now (beltcopy .entry)) (ran kind (before p timer ram rom belt) wanted .machine) ⌝ }
     ensures register { λ r. ⌜ r .register ≡ getD (ran kind (before p timer ram rom belt) wanted .machine .processor .registers) 1 0 ⌝ }
@@ -87,6 +88,7 @@ pub fn run(
         refusal: ran.refusal,
         steps: ran.steps,
         eid: ran.eid,
+        slot: ran.slot,
         unchanged: state & memory,
         register: registers[1],
         replacement: next.replacement,

@@ -1,5 +1,5 @@
 -- The part of a view: an accepted one is a frame of RAM, 4,096 bytes from a multiple of 4,096; a refused one is empty.
-use mathlib.Core.Path.{_≡_, refl, ap, sym, subst, _∙_}
+use mathlib.Core.Path.{_≡_, refl, ap, ap₂, sym, subst, _∙_}
 use mathlib.Core.Bool.{Bool, true, false, true≢false}
 use mathlib.Core.List.{List, []}
 use Prim.Native.Nat.{ℕ, _+_, _-_, _%_, _≤_, _<_}
@@ -18,7 +18,8 @@ use Rattle.refusals.specs.Refusal.{ramAccepted, pagesUpTo}
 use Rattle.refusals.proofs.FirstFailed.{all-pass}
 use Rattle.words.specs.Lists.{Every}
 use Rattle.words.proofs.Conjunction.{both-true}
-use Rattle.translation.specs.Translation.{physicalOf}
+use Rattle.tlb.specs.Lookup.{noSlot}
+use Rattle.translation.specs.Translation.{physicalOf, translationSlot}
 use Rattle.page_view.specs.View.{lookedUp, inRam, hasFrame, viewTests, viewRefusal, viewed, viewOf}
 use Rattle.page_view.specs.Part.{viewPart, partPtr}
 use Rattle.page_view.proofs.Answers.{the-refusal, the-offset, the-size}
@@ -32,10 +33,10 @@ multiple n e =
     let rest = both-true (leb 4096 n) (both (leb n 536870912) (eqb (n % 4096) 0)) e .1 in
     eqb-true (n % 4096) 0 (both-true (leb n 536870912) (eqb (n % 4096) 0) rest .1)
 
-found : (n : ℕ) (t : Translation) → inRam n t ≡ true → (t ≡ Physical (physicalOf t)) × (physicalOf t < n)
+found : (n : ℕ) (t : Translation) → inRam n t ≡ true → (t ≡ Physical (physicalOf t) (translationSlot t)) × (physicalOf t < n)
 found n t e =
-    walk (λ a. ltb a n) (λ eid. false) (λ (b : Bool). b ≡ true → (t ≡ Physical (physicalOf t)) × (physicalOf t < n)) t
-    (λ a p h. (p ∙ ap Physical (sym (ap physicalOf p)), subst (λ (k : ℕ). k < n) (sym (ap physicalOf p)) (ltb-true a n h)))
+    walk (λ a slot. ltb a n) (λ eid. false) (λ (b : Bool). b ≡ true → (t ≡ Physical (physicalOf t) (translationSlot t)) × (physicalOf t < n)) t
+    (λ a slot p h. (p ∙ ap₂ Physical (sym (ap physicalOf p)) (sym (ap translationSlot p)), subst (λ (k : ℕ). k < n) (sym (ap physicalOf p)) (ltb-true a n h)))
     (λ eid low high h. absurd (true≢false (sym h))) e
 
 module _ (ram : List ℕ) (p : Processor) (page : ℕ) where
@@ -56,16 +57,20 @@ module _ (ram : List ℕ) (p : Processor) (page : ℕ) where
     unfolding viewOf
     offset-is = simp (eq-eqb _ 0 ok)
 
-    in-ram : (lookedUp p page ≡ Physical (physicalOf (lookedUp p page))) × (physicalOf (lookedUp p page) < length ram)
+    slot-is : viewOf ram p page .slot ≡ translationSlot (lookedUp p page)
+    unfolding viewOf
+    slot-is = simp (eq-eqb _ 0 ok)
+
+    in-ram : (lookedUp p page ≡ Physical (physicalOf (lookedUp p page)) (translationSlot (lookedUp p page))) × (physicalOf (lookedUp p page) < length ram)
     unfolding hasFrame
     in-ram = found (length ram) (lookedUp p page) (both-true (leb page 0xFFFFF) _ frame-behind .1)
 
-    -- the Kernel Mode load of the page's first byte is granted, at the offset
-    pub first-byte : lookedUp p page ≡ Physical (viewOf ram p page .offset)
-    first-byte = in-ram .0 ∙ ap Physical (sym offset-is)
+    -- the Kernel Mode load of the page's first byte is granted, at the offset and by the slot
+    pub first-byte : lookedUp p page ≡ Physical (viewOf ram p page .offset) (viewOf ram p page .slot)
+    first-byte = in-ram .0 ∙ ap₂ Physical (sym offset-is) (sym slot-is)
 
     pub aligned : viewOf ram p page .offset % 4096 ≡ 0
-    aligned = frame-start p page _ first-byte
+    aligned = frame-start p page _ _ first-byte
 
     pub whole : viewOf ram p page .offset + 4096 ≤ length ram
     whole =
@@ -89,7 +94,7 @@ module _ (ram : List ℕ) (p : Processor) (page : ℕ) where
         ap length part-is ∙ length-take-le 4096 (drop (viewOf ram p page .offset) ram) (omega arith)
 
   -- as the code makes it, of the numbers that it was told
-  module _ {x y z : ℕ} (e : viewed x y z ≡ viewOf ram p page) (none : x ≡ 0) where
+  module _ {x i y z : ℕ} (e : viewed x i y z ≡ viewOf ram p page) (none : x ≡ 0) where
     ok : viewRefusal ram p page ≡ 0
     ok = sym (the-refusal ram p page e) ∙ none
 
@@ -109,6 +114,10 @@ module _ (ram : List ℕ) (p : Processor) (page : ℕ) where
   -- ---- a refused view
 
   module _ (no : viewRefusal ram p page ≡ 0 → ⊥) where
+    pub no-slot : viewOf ram p page .slot ≡ noSlot
+    unfolding viewOf
+    no-slot = simp (ne-eqb _ 0 no)
+
     pub no-offset : viewOf ram p page .offset ≡ 0
     unfolding viewOf
     no-offset = simp (ne-eqb _ 0 no)

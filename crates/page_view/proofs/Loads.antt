@@ -1,4 +1,4 @@
--- An accepted view agrees with Kernel Mode loads: byte i of the part is what a load of the page's byte i brings.
+-- An accepted view agrees with Kernel Mode loads: byte i of the part is what a load of the page's byte i brings, by the view's slot.
 use mathlib.Core.Path.{_≡_, ap, sym, _∙_}
 use mathlib.Core.Bool.{false}
 use mathlib.Core.List.{List}
@@ -47,13 +47,13 @@ module _ (ram rom belt : List ℕ) (t : Timer) (p : Processor) (page psw : ℕ) 
 
   pub load-agrees : (i : ℕ) → i < 4096
       → readFrom 1 (surroundings psw (p .tlbhigh) (p .tlblow) t (memory ram rom belt)) (page * 4096 + i)
-      ≡ Value (getD (viewPart ram p page) i 0)
+      ≡ Value (getD (viewPart ram p page) i 0) (viewOf ram p page .slot)
   unfolding readFrom
   load-agrees i h =
       let w = whole ram p page ok in
-      ap (readThrough 1 t (memory ram rom belt)) (frame-byte p page _ (first-byte ram p page ok) psw i kernel h)
-      ∙ ap answered (load-ram t (memory ram rom belt) (viewOf ram p page .offset + i) (omega arith))
-      ∙ ap Value (sym (part-byte i h))
+      ap (readThrough 1 t (memory ram rom belt)) (frame-byte p page _ _ (first-byte ram p page ok) psw i kernel h)
+      ∙ ap (answered (viewOf ram p page .slot)) (load-ram t (memory ram rom belt) (viewOf ram p page .offset + i) (omega arith))
+      ∙ ap (λ (v : ℕ). Value v (viewOf ram p page .slot)) (sym (part-byte i h))
 
   -- so the load of no byte of the page faults, and a page where one would is refused
   pub no-fault : (i eid : ℕ) → i < 4096

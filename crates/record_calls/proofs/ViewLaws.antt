@@ -15,16 +15,16 @@ use Rattle.record.specs.Calls.{recordTests, readRefusal, processorRead}
 use Rattle.record.proofs.Fitness.{both-fit}
 use Rattle.record.proofs.Answers.{accepted-means, read-accepted}
 use Rattle.record.proofs.OldRecords.{completed, same-processor, same-refusal}
-use Rattle.page_view.specs.View.{hasFrame, lookedUp, viewRefusal, viewed, viewedAt, viewOf}
+use Rattle.page_view.specs.View.{hasFrame, lookedUp, viewRefusal, noView, viewedAt, viewOf}
 use Rattle.record_calls.specs.Views.{callViewRefusal, callViewOf}
 
 module _ (ram s : List ℕ) (page : ℕ) where
-  pub view-wrong-length : ramAccepted (length ram) ≡ false → viewed 1 0 0 ≡ callViewOf ram s page
+  pub view-wrong-length : ramAccepted (length ram) ≡ false → noView 1 ≡ callViewOf ram s page
   unfolding callViewOf callViewRefusal
   view-wrong-length h = simp h
 
   module _ (accepted : ramAccepted (length ram) ≡ true) {q : ℕ} (read : q ≡ readRefusal s) where
-    pub view-refused-record : (q ≡ 0 → ⊥) → viewed q 0 0 ≡ callViewOf ram s page
+    pub view-refused-record : (q ≡ 0 → ⊥) → noView q ≡ callViewOf ram s page
     unfolding callViewOf callViewRefusal readRefusal
     view-refused-record h =
         let number = first-refuses (recordTests s) (frameTest (hasFrame (length ram) (processorOf s) page) ∷ []) refl read h in

@@ -36,7 +36,7 @@ pub fn copy(from: &[u8], buffer: &mut [u8]) -> u32
 }
 
 pub fn page_view(ram: &[u8], machine: &[u8], page: u64) -> View
-    ensures { λ r. ⌜ viewed (r .refusal) (r .offset) (r .length) ≡ callViewOf (now (ram .entry)) (now (machine .entry)) page ⌝ }
+    ensures { λ r. ⌜ viewed (r .refusal) (r .slot) (r .offset) (r .length) ≡ callViewOf (now (ram .entry)) (now (machine .entry)) page ⌝ }
 {
     if !refusals::ram_accepted(ram.len()) {
         return page_view::refused(refusals::RAM_LENGTH);

@@ -15,32 +15,33 @@ use Rattle.record_layout.specs.Record.{recordOf}
 use Rattle.replay.specs.declared.Counts.{Counts}
 use Rattle.bytes.specs.Same.{same}
 use Rattle.replay.specs.Tally.{raised, caseBegun, stepMade, endRead, failed, judged}
-use Rattle.expected.specs.Expected.{Expected, recordAgrees, memoryAgrees, agrees}
+use Rattle.expected.specs.Expected.{Expected, toldAgrees, recordAgrees, memoryAgrees, agrees}
 use Rattle.replay.specs.Agreement.{stepAgrees}
 use Rattle.replay.specs.Replay.{Replay, good, done, afterJudging, commanded, goodAt, commandedAt, replayedFrom, allGoodFrom, replayed, finished}
 use Rattle.bytes.proofs.SameLaws.{same-equal, numbers-first, lists-first, same-self}
 
 -- ---- what agreement says
 
-module _ (x : Expected) (wanted : ℕ) (m : Machine) (eid : ℕ) where
-  pub agrees-says : agrees x wanted m eid ≡ true
-      → (eid ≡ wanted) × (fitWith (m .processor) (m .timer) ≡ true) × (recordOf (m .processor) (m .timer) ≡ x .bytes)
+module _ (x : Expected) (wanted : ℕ) (m : Machine) (eid slot : ℕ) where
+  pub agrees-says : agrees x wanted m eid slot ≡ true
+      → (eid ≡ wanted % 256) × (slot ≡ wanted / 256) × (fitWith (m .processor) (m .timer) ≡ true) × (recordOf (m .processor) (m .timer) ≡ x .bytes)
       × (m .memory .ram ≡ x .memory .ram) × (m .memory .rom ≡ x .memory .rom) × (m .memory .belt ≡ x .memory .belt)
-  unfolding agrees recordAgrees memoryAgrees
+  unfolding agrees toldAgrees recordAgrees memoryAgrees
   agrees-says e =
-      let (number, rest) = numbers-first eid wanted _ e in
+      let (numbers, rest) = both-true (both (eqb eid (wanted % 256)) (eqb slot (wanted / 256))) _ e in
+      let (number, served) = numbers-first eid (wanted % 256) _ numbers in
       let (bytes, memory) = both-true (both (fitWith (m .processor) (m .timer)) (same (recordOf (m .processor) (m .timer)) (x .bytes))) _ rest in
       let (isFit, written) = both-true (fitWith (m .processor) (m .timer)) _ bytes in
       let (ram, others) = lists-first (m .memory .ram) (x .memory .ram) _ memory in
       let (rom, belt) = lists-first (m .memory .rom) (x .memory .rom) _ others in
-      (number, isFit, same-equal _ _ written, ram, rom, same-equal _ _ belt)
+      (number, eqb-true slot (wanted / 256) served, isFit, same-equal _ _ written, ram, rom, same-equal _ _ belt)
 
-  pub says-agrees : eid ≡ wanted → fitWith (m .processor) (m .timer) ≡ true → recordOf (m .processor) (m .timer) ≡ x .bytes
+  pub says-agrees : eid ≡ wanted % 256 → slot ≡ wanted / 256 → fitWith (m .processor) (m .timer) ≡ true → recordOf (m .processor) (m .timer) ≡ x .bytes
       → m .memory .ram ≡ x .memory .ram → m .memory .rom ≡ x .memory .rom → m .memory .belt ≡ x .memory .belt
-      → agrees x wanted m eid ≡ true
-  unfolding agrees recordAgrees memoryAgrees
-  says-agrees e f g h i j =
-      simp (eq-eqb eid wanted e, f, g, h, i, j, same-self (x .bytes), same-self (x .memory .ram), same-self (x .memory .rom)) (same-self (x .memory .belt))
+      → agrees x wanted m eid slot ≡ true
+  unfolding agrees toldAgrees recordAgrees memoryAgrees
+  says-agrees e k f g h i j =
+      simp (eq-eqb eid (wanted % 256) e, eq-eqb slot (wanted / 256) k, f, g, h, i, j, same-self (x .bytes), same-self (x .memory .ram), same-self (x .memory .rom)) (same-self (x .memory .belt))
 
 -- ---- one command
 

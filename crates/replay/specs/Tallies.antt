@@ -16,7 +16,7 @@ use Rattle.replay.specs.Agreement.{eidAfter}
 
 -- the opcode of a word that was read, or 64
 abbrev pub opcodeRead : Read → ℕ
-opcodeRead (Value word) = word / 2 ^ 26
+opcodeRead (Value word slot) = word / 2 ^ 26
 opcodeRead (Fault eid) = 64
 
 -- of the word at the PC

@@ -52,7 +52,7 @@ fn opcode_at(p: Processor, timer: Timer, ram: &[u8], rom: &[u8], belt: &[u8]) ->
     let lows = p.tlblow;
     let fetched = access::read_word(p.psw, &highs, &lows, timer, ram, rom, belt, p.pc);
     match fetched {
-        Read::Value(word) => word / 0x400_0000,
+        Read::Value(word, _) => word / 0x400_0000,
         Read::Fault(_) => 64,
     }
 }
@@ -107,6 +107,7 @@ pub fn step(
         rom,
         &belt[..],
         eid,
+        stepped.slot,
         xrecord,
         xram,
         xrom,

@@ -20,15 +20,15 @@ use Rattle.record.proofs.ReadWritten.{machine-written}
 use Rattle.machine.specs.Machine.{Machine}
 use Rattle.refusals.specs.Refusal.{Test, firstFailed, memoryTests, stepsTest}
 use Rattle.refusals.proofs.FirstFailed.{joined, all-pass}
-use Rattle.run_loop.specs.Run.{Request, request, answer, Outcome, runFrom}
+use Rattle.run_loop.specs.Run.{Request, request, answer, Outcome, begun, runFrom}
 use Rattle.run_loop.proofs.Loop.{no-step}
 use Rattle.run_loop.proofs.Kept.{run-fit, run-timer-fits}
 use Rattle.run_calls.specs.Runs.{callTests, callRefusal, Called, called, machineIn, recorded, callOf}
 use Rattle.run_calls.specs.Code.{firstOf}
 
 -- the numbers of a refused call
-pub answers : (s : List ℕ) (m : Memory) {x y z r : ℕ} → (x ≡ r) × (y ≡ 0) × (z ≡ 32) → called s m x y z ≡ called s m r 0 32
-answers s m e = rw (e .0, e .1, e .2)
+pub answers : (s : List ℕ) (m : Memory) {x y z w r : ℕ} → (x ≡ r) × (y ≡ 0) × (z ≡ 32) × (w ≡ 33) → called s m x y z w ≡ called s m r 0 32 33
+answers s m e = rw (e .0, e .1, e .2, e .3)
 
 -- ---- an accepted call passes every test
 
@@ -69,7 +69,7 @@ module _ (s : List ℕ) (m : Memory) (q : Request) {l r t number : ℕ}
       first ∙ rw (lengths, read, steps)
       (sym (joined (memoryTests m) (machineTests s ++ last) refl ∙ ap (firstOf (firstFailed (memoryTests m))) (joined (machineTests s) last refl)))
 
-  pub refused-call : (number ≡ 0 → ⊥) → called s m number 0 32 ≡ callOf q s m
+  pub refused-call : (number ≡ 0 → ⊥) → called s m number 0 32 33 ≡ callOf q s m
   unfolding callOf
   refused-call h = rw (← is-number) (simp (ne-eqb number 0 h))
 
@@ -84,14 +84,14 @@ module _ (s : List ℕ) (m : Memory) (q : Request) {l r t number : ℕ}
     steps-within = within s m (q .wanted) none
 
     module _ {p : Processor} (f : p ≡ processorUnless (machineRefusal s) s) {u : Timer} (g : u ≡ timerUnless (machineRefusal s) s)
-        {o : Outcome} (h : o ≡ runFrom q (q .wanted) 0 (record { processor = p; timer = u; memory = m })) where
+        {o : Outcome} (h : o ≡ runFrom q (q .wanted) (begun (record { processor = p; timer = u; memory = m }) 0)) where
       -- the machine that was read is the record's
-      same : o ≡ runFrom q (q .wanted) 0 (machineIn s m)
+      same : o ≡ runFrom q (q .wanted) (begun (machineIn s m) 0)
       same =
           let number = machine-accepted s m (q .wanted) none in
           let processor-read : p ≡ processorOf s = f ∙ ap (λ (n : ℕ). processorUnless n s) number in
           let timer-read : u ≡ timerOf s = g ∙ ap (λ (n : ℕ). timerUnless n s) number in
-          h ∙ (λ i. runFrom q (q .wanted) 0 (record { processor = processor-read i; timer = timer-read i; memory = m }))
+          h ∙ (λ i. runFrom q (q .wanted) (begun (record { processor = processor-read i; timer = timer-read i; memory = m }) 0))
 
       -- the outcome, with the buffer as it was written
       pub call-written : {b : List ℕ} → b ≡ recordOf (o .machine .processor) (o .machine .timer)
@@ -102,12 +102,12 @@ module _ (s : List ℕ) (m : Memory) (q : Request) {l r t number : ℕ}
       -- the machine after it can be written
       pub run-index : o .machine .processor .replacement < 256
       run-index =
-          let end = run-fit q (q .wanted) 0 (machineIn s m) (read-fits s m (q .wanted) none) .upto in
+          let end = run-fit q (q .wanted) (begun (machineIn s m) 0) (read-fits s m (q .wanted) none) .upto in
           omega (arith, end, ap (λ (q : Outcome). q .machine .processor .replacement) same)
 
       pub run-control : o .machine .timer .control < 256
       run-control =
-          let end = run-timer-fits q (q .wanted) 0 (machineIn s m) (timer-fits s m (q .wanted) none) in
+          let end = run-timer-fits q (q .wanted) (begun (machineIn s m) 0) (timer-fits s m (q .wanted) none) in
           omega (arith, end, ap (λ (q : Outcome). q .machine .timer .control) same)
 
 -- ---- zero steps change nothing
@@ -116,8 +116,8 @@ module _ (kind : Bool) (s : List ℕ) (m : Memory) (lines : ℕ) where
   abbrev q : Request
   q = request kind 0 lines
 
-  pub no-steps : ((j : ℕ) → getD s j 0 < 256) → callRefusal s m 0 ≡ 0 → callOf q s m ≡ called s m 0 0 32
+  pub no-steps : ((j : ℕ) → getD s j 0 < 256) → callRefusal s m 0 ≡ 0 → callOf q s m ≡ called s m 0 0 32 33
   unfolding callOf
   no-steps bytes e =
       let same : recordOf (processorOf s) (timerOf s) ≡ s = machine-written s bytes (machine-accepted s m 0 e) in
-      rw e (ap recorded (no-step q 0 (machineIn s m)) ∙ (λ i. record { buffer = same i; memory = m; answer = answer 0 0 32 }))
+      rw e (ap recorded (no-step q (begun (machineIn s m) 0)) ∙ (λ i. record { buffer = same i; memory = m; answer = answer 0 0 32 33 }))

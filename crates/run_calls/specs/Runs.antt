@@ -5,12 +5,13 @@ use Prim.Native.Nat.{ℕ}
 use lib.Dec.{eqb}
 use Rattle.memory.specs.Map.{Memory}
 use Rattle.words.specs.Identifiers.{noException}
+use Rattle.tlb.specs.Lookup.{noSlot}
 use Rattle.record_layout.specs.Record.{recordOf, processorOf, timerOf}
 use Rattle.machine.specs.Machine.{Machine}
 use Rattle.step.specs.Step.{Stepped}
 use Rattle.refusals.specs.Refusal.{Test, firstFailed, memoryTests, stepsTest}
 use Rattle.record.specs.Calls.{machineTests}
-use Rattle.run_loop.specs.Run.{Request, Answer, answer, Outcome, stepsFrom, runFrom}
+use Rattle.run_loop.specs.Run.{Request, Answer, answer, Outcome, begun, stepsFrom, runFrom}
 
 abbrev pub callTests : List ℕ → Memory → ℕ → List Test
 callTests s m wanted = memoryTests m ++ (machineTests s ++ (stepsTest wanted ∷ []))
@@ -24,8 +25,8 @@ pub record Called : Type 0 where
   pub memory : Memory
   pub answer : Answer
 
-abbrev pub called : List ℕ → Memory → ℕ → ℕ → ℕ → Called
-called buffer m refusal steps eid = record { buffer = buffer; memory = m; answer = answer refusal steps eid }
+abbrev pub called : List ℕ → Memory → ℕ → ℕ → ℕ → ℕ → Called
+called buffer m refusal steps eid slot = record { buffer = buffer; memory = m; answer = answer refusal steps eid slot }
 
 -- the machine that a record holds, with the lent memory
 abbrev pub machineIn : List ℕ → Memory → Machine
@@ -44,5 +45,5 @@ callSteps q s m = cond (eqb (callRefusal s m (q .wanted)) 0) (stepsFrom q (q .wa
 unfoldable pub callOf : Request → List ℕ → Memory → Called
 callOf q s m =
     cond (eqb (callRefusal s m (q .wanted)) 0)
-    (recorded (runFrom q (q .wanted) 0 (machineIn s m)))
-    (called s m (callRefusal s m (q .wanted)) 0 noException)
+    (recorded (runFrom q (q .wanted) (begun (machineIn s m) 0)))
+    (called s m (callRefusal s m (q .wanted)) 0 noException noSlot)

@@ -2,6 +2,7 @@
 use processor::Processor;
 ghost use mathlib.Core.Path.{_≡_};
 ghost use Rattle.words.specs.Identifiers.{noException};
+ghost use Rattle.tlb.specs.Lookup.{noSlot};
 ghost use Rattle.memory.specs.Lent.{lent, left};
 ghost use Rattle.run_calls.specs.Runs.{called, callOf};
 ghost use Rattle.run_calls.specs.Code.{firstOf};
@@ -13,15 +14,17 @@ pub struct Answer {
     pub refusal: u32,
     pub steps: u32,
     pub eid: u32,
+    pub slot: u32,
 }
 
 fn refused(number: u32) -> Answer
-    ensures { λ r. ⌜ (r .refusal ≡ number) × (r .steps ≡ 0) × (r .eid ≡ noException) ⌝ }
+    ensures { λ r. ⌜ (r .refusal ≡ number) × (r .steps ≡ 0) × (r .eid ≡ noException) × (r .slot ≡ noSlot) ⌝ }
 {
     Answer {
         refusal: number,
         steps: 0,
         eid: Processor::NO_EXCEPTION,
+        slot: tlb::NO_SLOT,
     }
 }
 
@@ -48,7 +51,7 @@ pub fn call(
     lines: u16,
     kind: bool,
 ) -> Answer
-    ensures { λ r. ⌜ called (now (machine .exit)) (left ram rom belt) (r .refusal) (r .steps) (r .eid)
+    ensures { λ r. ⌜ called (now (machine .exit)) (left ram rom belt) (r .refusal) (r .steps) (r .eid) (r .slot)
         ≡ callOf (request kind wanted lines) (now (machine .entry)) (lent ram rom belt) ⌝ }
 {
     let lengths = refusals::of_lengths(ram.len(), rom.len(), belt.len());
@@ -73,5 +76,6 @@ pub fn call(
         refusal: ran.refusal,
         steps: ran.steps,
         eid: ran.eid,
+        slot: ran.slot,
     }
 }

@@ -10,30 +10,28 @@ use Rattle.machine.specs.Machine.{Machine}
 use Rattle.step.specs.Step.{stepOf}
 use Rattle.step.proofs.IndexLaws.{step-moves}
 use Rattle.refusals.specs.Refusal.{runRefusal}
-use Rattle.run_loop.specs.Run.{Request, Outcome, refused, ends, runFrom, runOf, stepsFrom, countedAll}
-use Rattle.run_loop.proofs.Loop.{first-step, run-is}
+use Rattle.run_loop.specs.Run.{Request, Outcome, begun, ends, runFrom, runOf, stepsFrom, countedAll}
+use Rattle.run_loop.proofs.Loop.{onward, first-step, run-is}
 
 module _ (q : Request) where
   -- the index of the machine that a run leaves, by the index r of the one that it began with
   abbrev Moved : ℕ → Outcome → Type 0
   Moved r o = o .machine .processor .replacement ≡ replacementAfter (o .answer .steps) r
 
-  from-moves : (r n made : ℕ) (m : Machine) → m .processor .replacement ≡ replacementAfter made r → Moved r (runFrom q n made m)
+  from-moves : (r n : ℕ) (o : Outcome) → Moved r o → Moved r (runFrom q n o)
   unfolding runFrom stepsFrom countedAll replacementAfter
-  from-moves r zero made m e = e
-  from-moves r (suc n) made m e =
-      let next : stepOf m (q .lines) .machine .processor .replacement ≡ nextReplacement (replacementAfter made r) =
-      step-moves m (q .lines) ∙ ap nextReplacement e in
-      rw (first-step q n made m)
-      (chosen (Moved r) (ends (q .kind) (stepOf m (q .lines) .event .eid)) next (from-moves r n (suc made) (stepOf m (q .lines) .machine) next))
+  from-moves r zero o e = e
+  from-moves r (suc n) o e =
+      let next : Moved r (onward q o) = step-moves (o .machine) (q .lines) ∙ ap nextReplacement e in
+      rw (first-step q n o) (chosen (Moved r) (ends (q .kind) (stepOf (o .machine) (q .lines) .event .eid)) next (from-moves r n (onward q o) next))
 
   -- of every run, a refused one too, which makes no step
   pub run-moves : (m : Machine) → Moved (m .processor .replacement) (runOf q m)
   unfolding replacementAfter
   run-moves m =
-      let none : Moved (m .processor .replacement) (refused m (runRefusal m (q .wanted))) = refl in
+      let none : Moved (m .processor .replacement) (begun m (runRefusal m (q .wanted))) = refl in
       rw (run-is q m)
-      (chosen (Moved (m .processor .replacement)) (eqb (runRefusal m (q .wanted)) 0) (from-moves (m .processor .replacement) (q .wanted) 0 m refl) none)
+      (chosen (Moved (m .processor .replacement)) (eqb (runRefusal m (q .wanted)) 0) (from-moves (m .processor .replacement) (q .wanted) (begun m 0) refl) none)
 
   -- from a fit machine it goes round in 4..31
   pub run-index : (m : Machine) → Fit (m .processor)

@@ -6,12 +6,12 @@ use Prim.Native.Nat.{ℕ, suc, _+_, _-_, _≤_, _<_}
 use native.Mathlib.Numerals.{add-one}
 use native.Mathlib.Omega.{arith}
 use lib.Dec.{eqb}
-use borrow.Author.Tests.{lt-ltb, le-ltb, eqb-true}
+use borrow.Author.Tests.{lt-ltb, le-ltb, eqb-true, eqb-false}
 use Rattle.words.proofs.Counts.{left, over}
 use Rattle.machine.specs.Machine.{Machine}
 use Rattle.step.specs.Step.{Stepped, stepOf}
 use Rattle.refusals.specs.Refusal.{runRefusal}
-use Rattle.run_loop.specs.Run.{Request, Outcome, outcome, ends, stepsFrom, stepsOf, counted, countedAll, refused, runOf, runFrom}
+use Rattle.run_loop.specs.Run.{Request, Outcome, outcome, ends, stepsFrom, stepsOf, counted, countedAll, begun, runOf, runFrom}
 
 -- ---- whether a step is the last
 
@@ -30,28 +30,27 @@ exception-ends kind eid e h = rw e (lt-ltb eid 32 h)
 
 -- ---- a run by its first step, and by its refusal
 
-pub no-step : (q : Request) (made : ℕ) (m : Machine) → runFrom q 0 made m ≡ outcome m 0 made 32
+pub no-step : (q : Request) (o : Outcome) → runFrom q 0 o ≡ o
 unfolding runFrom stepsFrom countedAll
-no-step q made m = refl
+no-step q o = refl
 
 -- by the test of the step's event
-by-step : (q : Request) (t : Bool) (n made eid : ℕ) (m : Machine)
-    → countedAll q (outcome m 0 (suc made) (cond t eid 32)) (cond t [] (stepsFrom q n m))
-    ≡ cond t (outcome m 0 (suc made) eid) (runFrom q n (suc made) m)
+by-step : (q : Request) (t : Bool) (n : ℕ) (o : Outcome) → countedAll q o (cond t [] (stepsFrom q n (o .machine))) ≡ cond t o (runFrom q n o)
 unfolding countedAll runFrom
-by-step q true n made eid m = refl
-by-step q false n made eid m = refl
+by-step q true n o = refl
+by-step q false n o = refl
 
-pub first-step : (q : Request) (n made : ℕ) (m : Machine)
-    → runFrom q (suc n) made m
-    ≡ cond (ends (q .kind) (stepOf m (q .lines) .event .eid)) (outcome (stepOf m (q .lines) .machine) 0 (suc made) (stepOf m (q .lines) .event .eid))
-    (runFrom q n (suc made) (stepOf m (q .lines) .machine))
+-- an outcome with the next step counted
+abbrev pub onward : Request → Outcome → Outcome
+onward q o = counted q o (stepOf (o .machine) (q .lines))
+
+pub first-step : (q : Request) (n : ℕ) (o : Outcome)
+    → runFrom q (suc n) o ≡ cond (ends (q .kind) (stepOf (o .machine) (q .lines) .event .eid)) (onward q o) (runFrom q n (onward q o))
 unfolding runFrom stepsFrom countedAll
-first-step q n made m =
-    by-step q (ends (q .kind) (stepOf m (q .lines) .event .eid)) n made (stepOf m (q .lines) .event .eid) (stepOf m (q .lines) .machine)
+first-step q n o = by-step q (ends (q .kind) (stepOf (o .machine) (q .lines) .event .eid)) n (onward q o)
 
 pub run-is : (q : Request) (m : Machine)
-    → runOf q m ≡ cond (eqb (runRefusal m (q .wanted)) 0) (runFrom q (q .wanted) 0 m) (refused m (runRefusal m (q .wanted)))
+    → runOf q m ≡ cond (eqb (runRefusal m (q .wanted)) 0) (runFrom q (q .wanted) (begun m 0)) (begun m (runRefusal m (q .wanted)))
 unfolding runOf stepsOf runFrom countedAll
 run-is q m = go (eqb r 0) refl
   where
@@ -59,9 +58,8 @@ run-is q m = go (eqb r 0) refl
     r = runRefusal m (q .wanted)
 
     go : (t : Bool) → eqb r 0 ≡ t
-        → countedAll q (refused m r) (cond t (stepsFrom q (q .wanted) m) [])
-        ≡ cond t (countedAll q (outcome m 0 0 32) (stepsFrom q (q .wanted) m)) (refused m r)
-    go true e = ap (λ (k : ℕ). countedAll q (refused m k) (stepsFrom q (q .wanted) m)) (eqb-true r 0 e)
+        → countedAll q (begun m r) (cond t (stepsFrom q (q .wanted) m) []) ≡ cond t (countedAll q (begun m 0) (stepsFrom q (q .wanted) m)) (begun m r)
+    go true e = ap (λ (k : ℕ). countedAll q (begun m k) (stepsFrom q (q .wanted) m)) (eqb-true r 0 e)
     go false e = refl
 
 -- ---- the turns
@@ -69,21 +67,41 @@ run-is q m = go (eqb r 0) refl
 pub one-less : (n i : ℕ) → i < n → n - (i + 1) < n - i
 one-less n i h = omega arith
 
+-- the slot of an outcome counts where no step follows; the loop keeps it for the step that is the last of those wanted
+any-slot : (q : Request) (n : ℕ) (m : Machine) (made i j : ℕ) → runFrom q (suc n) (outcome m 0 made 32 i) ≡ runFrom q (suc n) (outcome m 0 made 32 j)
+unfolding runFrom stepsFrom countedAll
+any-slot q n m made i j = refl
+
+last-slot : (q : Request) (made : ℕ) (m : Machine) (slot : ℕ) → made ≤ q .wanted
+    → runFrom q (q .wanted - made) (outcome m 0 made 32 slot) ≡ runFrom q (q .wanted - made) (outcome m 0 made 32 (cond (eqb made (q .wanted)) slot 33))
+last-slot q made m slot h = go (eqb made (q .wanted)) refl
+  where
+    go : (t : Bool) → eqb made (q .wanted) ≡ t
+        → runFrom q (q .wanted - made) (outcome m 0 made 32 slot) ≡ runFrom q (q .wanted - made) (outcome m 0 made 32 (cond t slot 33))
+    go true e = refl
+    go false e =
+        let more : made < q .wanted = let other = eqb-false made (q .wanted) e in omega arith in
+        rw (left (q .wanted) made more) (any-slot q (q .wanted - (made + 1)) m made slot 33)
+
 module _ (q : Request) (made : ℕ) (m : Machine) where
-  module _ (n : Machine) (eid : ℕ) (e : n ≡ stepOf m (q .lines) .machine) (f : eid ≡ stepOf m (q .lines) .event .eid) (more : made < q .wanted) where
-    turn : runFrom q (q .wanted - made) made m
-        ≡ cond (ends (q .kind) eid) (outcome n 0 (made + 1) eid) (runFrom q (q .wanted - (made + 1)) (made + 1) n)
-    turn = rw (left (q .wanted) made more, add-one made, e, f) (first-step q (q .wanted - suc made) made m)
+  module _ (slot : ℕ) (n : Machine) (eid told : ℕ) (e : n ≡ stepOf m (q .lines) .machine) (f : eid ≡ stepOf m (q .lines) .event .eid)
+      (g : told ≡ stepOf m (q .lines) .event .slot) (more : made < q .wanted) where
+    turn : runFrom q (q .wanted - made) (outcome m 0 made 32 slot)
+        ≡ cond (ends (q .kind) eid) (outcome n 0 (made + 1) (cond (ends (q .kind) eid) eid 32) told)
+        (runFrom q (q .wanted - (made + 1)) (outcome n 0 (made + 1) (cond (ends (q .kind) eid) eid 32) told))
+    turn = rw (left (q .wanted) made more, add-one made, e, f, g) (first-step q (q .wanted - suc made) (outcome m 0 made 32 slot))
 
-    pub run-more : ends (q .kind) eid ≡ false → runFrom q (q .wanted - made) made m ≡ runFrom q (q .wanted - (made + 1)) (made + 1) n
-    run-more on = turn ∙ simp on
+    pub run-more : ends (q .kind) eid ≡ false → runFrom q (q .wanted - made) (outcome m 0 made 32 slot)
+        ≡ runFrom q (q .wanted - (made + 1)) (outcome n 0 (made + 1) 32 (cond (eqb (made + 1) (q .wanted)) told 33))
+    run-more on = turn ∙ simp on (last-slot q (made + 1) n told (omega arith))
 
-    pub run-stop : ends (q .kind) eid ≡ true → runFrom q (q .wanted - made) made m ≡ outcome n 0 (made + 1) eid
+    pub run-stop : ends (q .kind) eid ≡ true → runFrom q (q .wanted - made) (outcome m 0 made 32 slot) ≡ outcome n 0 (made + 1) eid told
     run-stop last = turn ∙ simp last
 
-  pub run-end : (eid : ℕ) → eid ≡ 32 → q .wanted ≤ made → runFrom q (q .wanted - made) made m ≡ outcome m 0 made eid
+  pub run-end : (eid slot : ℕ) → eid ≡ 32 → q .wanted ≤ made
+      → runFrom q (q .wanted - made) (outcome m 0 made 32 slot) ≡ outcome m 0 made eid slot
   unfolding runFrom stepsFrom countedAll
-  run-end eid none h = rw (over (q .wanted) made h, none)
+  run-end eid slot none h = rw (over (q .wanted) made h, none)
 
-  pub run-start : runFrom q (q .wanted) 0 m ≡ runFrom q (q .wanted - 0) 0 m
-  run-start = ap (λ (n : ℕ). runFrom q n 0 m) (omega arith)
+  pub run-start : runFrom q (q .wanted) (begun m 0) ≡ runFrom q (q .wanted - 0) (begun m 0)
+  run-start = ap (λ (n : ℕ). runFrom q n (begun m 0)) (omega arith)

@@ -1,15 +1,16 @@
--- A run of one step to exception is the step: its machine, and its exception or 32.
+-- A run of one step to exception is the step: its machine, its exception or 32, and its slot or 33.
 use mathlib.Core.Path.{_≡_, refl, ap, sym, _∙_}
 use mathlib.Core.Bool.{Bool, true, false, cond}
 use Prim.Native.Nat.{ℕ, _≤_}
 use native.Mathlib.Omega.{arith}
 use borrow.Author.Tests.{ltb-false}
+use Rattle.words.proofs.Cases.{chosen}
 use Rattle.instructions.specs.Action.{Action, Write, Store, System, Exception}
 use Rattle.machine.specs.Machine.{Machine}
 use Rattle.step.specs.Step.{look, eidOf, stepped, stepOf}
 use Rattle.step.proofs.Named.{named-below}
-use Rattle.run_loop.specs.Run.{toException, request, Outcome, outcome, ends, runFrom}
-use Rattle.run_loop.proofs.Loop.{no-step, first-step}
+use Rattle.run_loop.specs.Run.{toException, request, Outcome, outcome, ends, begun, runFrom}
+use Rattle.run_loop.proofs.Loop.{no-step, onward, first-step}
 
 module _ (m : Machine) (lines : ℕ) where
   abbrev eid : ℕ
@@ -21,23 +22,22 @@ module _ (m : Machine) (lines : ℕ) where
   none-is-32 h = go (look m lines) refl h
     where
       go : (a : Action) → look m lines ≡ a → 32 ≤ eidOf a → eidOf a ≡ 32
-      go (Write n v next) e k = refl
-      go (Store width physical v) e k = refl
+      go (Write n v next slot) e k = refl
+      go (Store width physical v slot) e k = refl
       go (System i) e k = refl
       go (Exception number address) e k = absurd (omega (arith, named-below m lines number address e))
 
-  pub one-step : (n : Machine) (r k number : ℕ) → outcome n r k number ≡ runFrom (request toException 1 lines) 1 0 m
-      → stepped n number ≡ stepOf m lines
+  pub one-step : (n : Machine) (r k number slot : ℕ) → outcome n r k number slot ≡ runFrom (request toException 1 lines) 1 (begun m 0)
+      → stepped n number slot ≡ stepOf m lines
   unfolding ends
-  one-step n r k number e = λ i. stepped (same i .machine) (same i .answer .eid)
+  one-step n r k number slot e = λ i. stepped (same i .machine) (same i .answer .eid) (same i .answer .slot)
     where
-      last : (t : Bool) → ends toException eid ≡ t
-          → cond t (outcome (stepOf m lines .machine) 0 1 eid) (runFrom (request toException 1 lines) 0 1 (stepOf m lines .machine))
-          ≡ outcome (stepOf m lines .machine) 0 1 eid
-      last true h = refl
-      last false h =
-          no-step (request toException 1 lines) 1 (stepOf m lines .machine)
-          ∙ ap (outcome (stepOf m lines .machine) 0 1) (sym (none-is-32 (ltb-false eid 32 h)))
+      known : (t : Bool) → ends toException eid ≡ t → cond t eid 32 ≡ eid
+      known true h = refl
+      known false h = sym (none-is-32 (ltb-false eid 32 h))
 
-      same : outcome n r k number ≡ outcome (stepOf m lines .machine) 0 1 eid
-      same = e ∙ first-step (request toException 1 lines) 0 0 m ∙ last (ends toException eid) refl
+      same : outcome n r k number slot ≡ outcome (stepOf m lines .machine) 0 1 eid (stepOf m lines .event .slot)
+      same =
+          e ∙ first-step (request toException 1 lines) 0 (begun m 0)
+          ∙ chosen (λ (o : Outcome). o ≡ onward (request toException 1 lines) (begun m 0)) (ends toException eid) refl (no-step _ _)
+          ∙ ap (λ (j : ℕ). outcome (stepOf m lines .machine) 0 1 j (stepOf m lines .event .slot)) (known (ends toException eid) refl)

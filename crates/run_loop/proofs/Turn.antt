@@ -5,9 +5,10 @@ use mathlib.Core.List.{List, [], _∷_}
 use Prim.Native.Nat.{ℕ, zero, suc, _+_, _-_, _%_, _<_}
 use native.Mathlib.Numerals.{add-one}
 use native.Mathlib.Omega.{arith}
-use lib.Dec.{leb}
+use lib.Dec.{leb, eqb}
 use lib.ListN.{length, getD, set}
 use borrow.Author.Tests.{lt-leb, eq-eqb, ne-eqb}
+use Rattle.words.proofs.Cases.{chosen}
 use Rattle.tlb.specs.Found.{Serves}
 use Rattle.tlb.specs.declared.Found.{Found}
 use Rattle.instructions.specs.Action.{Action, Exception}
@@ -17,15 +18,15 @@ use Rattle.processor.specs.Exception.{entered}
 use Rattle.processor.specs.Register.{put, written, jumped}
 use Rattle.processor.specs.Tlb.{indexMoved}
 use Rattle.actions.specs.Actions.{processorAfter}
-use Rattle.tlb.specs.Lookup.{pageOf, lookup, replacementAfter}
+use Rattle.tlb.specs.Lookup.{pageOf, noSlot, lookup, replacementAfter}
 use Rattle.timer.specs.Timer.{linesWith}
 use Rattle.machine.specs.Machine.{Machine}
 use Rattle.look.specs.Look.{lookFrom}
-use Rattle.step.specs.Step.{surroundingsOf, look, done, eidOf, stepOf}
-use Rattle.step.proofs.Looks.{step-done, step-eid}
+use Rattle.step.specs.Step.{surroundingsOf, look, done, eidOf, slotOf, stepOf}
+use Rattle.step.proofs.Looks.{step-done, step-eid, step-slot}
 use Rattle.step.proofs.Named.{named-below}
 use Rattle.step.proofs.IndexLaws.{action-leaves}
-use Rattle.run_loop.specs.Run.{indexed, Request, outcome, ends, runFrom}
+use Rattle.run_loop.specs.Run.{indexed, Request, outcome, ends, begun, runFrom}
 use Rattle.run_loop.proofs.Loop.{exception-ends, run-more, run-stop}
 
 -- ---- registers
@@ -101,14 +102,21 @@ followed-serves highs last page i address e f = λ below. f ∙ ap (lookup highs
 -- ---- the run
 
 -- what holds before each turn: of the machine that the run began with, of the one that it has come to, and of the entry found last
-pub record Going (q : Request) (began m : Machine) (last : Found) (steps eid : ℕ) : Type 0 where
+pub record Going (q : Request) (began m : Machine) (last : Found) (steps eid slot : ℕ) : Type 0 where
   pub ram : length (m .memory .ram) ≡ length (began .memory .ram)
   pub belt : length (m .memory .belt) ≡ length (began .memory .belt)
   pub none : eid ≡ 32
+  -- no step but the last tells its slot
+  pub untold : steps < q .wanted → slot ≡ noSlot
   pub found : last .index ≡ lookup (m .processor .tlbhigh) (last .page)
-  pub rest : runFrom q (q .wanted) 0 began ≡ runFrom q (q .wanted - steps) steps m
+  pub rest : runFrom q (q .wanted) (begun began 0) ≡ runFrom q (q .wanted - steps) (outcome m 0 steps 32 slot)
 
-module _ {q : Request} {began m : Machine} {last : Found} {steps eid : ℕ} (g : Going q began m last steps eid) (more : steps < q .wanted)
+-- the slot that the loop keeps after a step more: a step without a data access leaves it
+pub still-none : {q : Request} {began m : Machine} {last : Found} {steps eid slot : ℕ} → Going q began m last steps eid slot → steps < q .wanted
+    → slot ≡ cond (eqb (steps + 1) (q .wanted)) noSlot noSlot
+still-none {q} {steps = steps} g more = g .untold more ∙ chosen (λ (n : ℕ). noSlot ≡ n) (eqb (steps + 1) (q .wanted)) refl refl
+
+module _ {q : Request} {began m : Machine} {last : Found} {steps eid slot : ℕ} (g : Going q began m last steps eid slot) (more : steps < q .wanted)
     {seen : ℕ} (s : seen ≡ linesWith (m .timer) (q .lines))
     {a b : Action} (e : b ≡ lookFrom (surroundingsOf m) (m .processor .registers) (m .processor .pc) seen) (told : b ≡ a)
     {n : Machine} (after : n ≡ done m a) where
@@ -122,23 +130,30 @@ module _ {q : Request} {began m : Machine} {last : Found} {steps eid : ℕ} (g :
   named : eidOf a ≡ stepOf m (q .lines) .event .eid
   named = sym (step-eid m (q .lines) a looked)
 
+  told-of : slotOf a ≡ stepOf m (q .lines) .event .slot
+  told-of = sym (step-slot m (q .lines) a looked)
+
   -- the run goes on
   pub again : ends (q .kind) (eidOf a) ≡ false
       → length (n .memory .ram) ≡ length (m .memory .ram) → length (n .memory .belt) ≡ length (m .memory .belt)
-      → {last₁ : Found} → last₁ .index ≡ lookup (n .processor .tlbhigh) (last₁ .page) → Going q began n last₁ (steps + 1) eid
-  again on ram belt found =
+      → {last₁ : Found} → last₁ .index ≡ lookup (n .processor .tlbhigh) (last₁ .page)
+      → {slot₁ : ℕ} → slot₁ ≡ cond (eqb (steps + 1) (q .wanted)) (slotOf a) noSlot → Going q began n last₁ (steps + 1) eid slot₁
+  again on ram belt found {slot₁} kept =
       record {
         ram = ram ∙ g .ram;
         belt = belt ∙ g .belt;
         none = g .none;
         found = found;
-        rest = g .rest ∙ run-more q steps m n (eidOf a) stepped-to named more on;
+        untold = λ more₁. kept ∙ simp (ne-eqb (steps + 1) (q .wanted) (λ last. omega arith));
+        rest = g .rest ∙ run-more q steps m slot n (eidOf a) (slotOf a) stepped-to named told-of more on
+            ∙ ap (λ (i : ℕ). runFrom q (q .wanted - (steps + 1)) (outcome n 0 (steps + 1) 32 i)) (sym kept);
       }
 
-  -- the run ends: an exception that was named has a number below 32
+  -- the run ends: an exception that was named has a number below 32, and no slot
   pub stops : (number address : ℕ) → a ≡ Exception number address → q .kind ≡ true
-      → outcome n 0 (steps + 1) (eidOf a) ≡ runFrom q (q .wanted) 0 began
+      → outcome n 0 (steps + 1) (eidOf a) slot ≡ runFrom q (q .wanted) (begun began 0)
   stops number address f on =
       let below : number < 32 = omega (arith, named-below m (q .lines) number address (looked ∙ f)) in
-      sym (g .rest ∙ run-stop q steps m n (eidOf a) stepped-to named more
+      ap (outcome n 0 (steps + 1) (eidOf a)) (g .untold more ∙ sym (ap slotOf f))
+      ∙ sym (g .rest ∙ run-stop q steps m slot n (eidOf a) (slotOf a) stepped-to named told-of more
       (exception-ends (q .kind) (eidOf a) on (subst (λ (b : Action). eidOf b < 32) (sym f) below)))

@@ -1,10 +1,11 @@
--- The two kinds of run (document 01, "Runs and views" and "Refused calls"): the steps that a run makes, and its answer counted from them.
+-- The two kinds of run (document 01, "Runs and views" and "Refused calls"; document 02, job 2): the steps that a run makes, and its answer
+-- counted from them.
 use mathlib.Core.Bool.{Bool, true, false, cond}
 use mathlib.Core.List.{List, [], _∷_}
 use Prim.Native.Nat.{ℕ, zero, suc}
 use lib.Dec.{ltb, eqb}
 use Rattle.words.specs.Logic.{both}
-use Rattle.tlb.specs.Lookup.{replacementAfter}
+use Rattle.tlb.specs.Lookup.{noSlot, replacementAfter}
 use Rattle.processor.specs.declared.Processor.{Processor}
 use Rattle.processor.specs.State.{withReplacement}
 use Rattle.machine.specs.Machine.{Machine}
@@ -32,22 +33,23 @@ request kind wanted lines = record { kind = kind; wanted = wanted; lines = lines
 
 -- ---- what it answers
 
--- the refusal or 0, the steps made, and the exception that ended the run, or `noException`
+-- the refusal or 0, the steps made, the exception that ended the run, or `noException`, and the slot of the last step, or `noSlot` where none was made
 pub record Answer : Type 0 where
   pub refusal : ℕ
   pub steps : ℕ
   pub eid : ℕ
+  pub slot : ℕ
 
-abbrev pub answer : ℕ → ℕ → ℕ → Answer
-answer refusal steps eid = record { refusal = refusal; steps = steps; eid = eid }
+abbrev pub answer : ℕ → ℕ → ℕ → ℕ → Answer
+answer refusal steps eid slot = record { refusal = refusal; steps = steps; eid = eid; slot = slot }
 
 -- the machine after a run, and its answer
 pub record Outcome : Type 0 where
   pub machine : Machine
   pub answer : Answer
 
-abbrev pub outcome : Machine → ℕ → ℕ → ℕ → Outcome
-outcome m refusal steps eid = record { machine = m; answer = answer refusal steps eid }
+abbrev pub outcome : Machine → ℕ → ℕ → ℕ → ℕ → Outcome
+outcome m refusal steps eid slot = record { machine = m; answer = answer refusal steps eid slot }
 
 -- ---- its steps
 
@@ -72,17 +74,18 @@ stepsOf q m = cond (eqb (runRefusal m (q .wanted)) 0) (stepsFrom q (q .wanted) m
 abbrev pub counted : Request → Outcome → Stepped → Outcome
 counted q o s =
     outcome (s .machine) (o .answer .refusal) (suc (o .answer .steps)) (cond (ends (q .kind) (s .event .eid)) (s .event .eid) noException)
+    (s .event .slot)
 
 unfoldable pub countedAll : Request → Outcome → List Stepped → Outcome
 countedAll q o [] = o
 countedAll q o (s ∷ ss) = countedAll q (counted q o s) ss
 
--- what a run answers before any step; for a refused one there are no others
-abbrev pub refused : Machine → ℕ → Outcome
-refused m number = outcome m number 0 noException
+-- what a run answers before any step, by its refusal or 0; for a refused one there are no others
+abbrev pub begun : Machine → ℕ → Outcome
+begun m refusal = outcome m refusal 0 noException noSlot
 
 unfoldable pub runOf : Request → Machine → Outcome
-runOf q m = countedAll q (refused m (runRefusal m (q .wanted))) (stepsOf q m)
+runOf q m = countedAll q (begun m (runRefusal m (q .wanted))) (stepsOf q m)
 
 -- ---- as the loop makes it
 
@@ -90,9 +93,9 @@ runOf q m = countedAll q (refused m (runRefusal m (q .wanted))) (stepsOf q m)
 abbrev pub indexed : ℕ → ℕ → Processor → Processor
 indexed first made p = withReplacement p (replacementAfter made first)
 
--- n more steps at most, after those made
-unfoldable pub runFrom : Request → ℕ → ℕ → Machine → Outcome
-runFrom q n made m = countedAll q (outcome m 0 made noException) (stepsFrom q n m)
+-- n more steps at most, after those of an outcome
+unfoldable pub runFrom : Request → ℕ → Outcome → Outcome
+runFrom q n o = countedAll q o (stepsFrom q n (o .machine))
 
 -- ---- the machine after n steps, to which the laws of a run compare it
 

@@ -3,17 +3,31 @@ use instructions::Coded;
 use processor::Processor;
 use timer::Timer;
 ghost use mathlib.Core.Path.{_≡_};
+ghost use mathlib.Core.Bool.{cond};
+ghost use lib.Dec.{eqb};
+ghost use Rattle.tlb.specs.Lookup.{noSlot};
 ghost use Rattle.machine.specs.Machine.{before, after};
 ghost use Rattle.step.specs.Step.{stepped, stepOf};
-ghost use Rattle.run_loop.specs.Run.{indexed, request, outcome, runFrom};
+ghost use Rattle.run_loop.specs.Run.{indexed, request, outcome, begun, runFrom};
 
-// The processor and the timer after a run; the refusal or 0, the steps made, and the exception that ended it, or 32.
+// The processor and the timer after a run; the refusal or 0, the steps made, the exception that ended it, or 32, and the slot of the last step.
 pub struct Ran {
     pub processor: Processor,
     pub timer: Timer,
     pub refusal: u32,
     pub steps: u32,
     pub eid: u32,
+    pub slot: u32,
+}
+
+// The slot of a step, if it is the last of those wanted: a run is asked for no other's.
+fn last_slot(steps: u32, wanted: u32, served: u32) -> u32
+    ensures { λ r. ⌜ r ≡ cond (eqb steps wanted) served noSlot ⌝ }
+{
+    if steps == wanted {
+        return served;
+    }
+    tlb::NO_SLOT
 }
 
 // The steps of an accepted run, but for the replacement index. `kind` says whether an accepted exception ends it. The processor keeps an old
@@ -28,8 +42,8 @@ fn turns(
     lines: u32,
     kind: bool,
 ) -> Ran
-    ensures { λ r. ⌜ outcome (after (indexed (p .replacement) (r .steps) (r .processor)) (r .timer) ram rom belt) (r .refusal) (r .steps) (r .eid)
-        ≡ runFrom (request kind wanted lines) wanted 0 (before p timer ram rom belt) ⌝ }
+    ensures { λ r. ⌜ outcome (after (indexed (p .replacement) (r .steps) (r .processor)) (r .timer) ram rom belt) (r .refusal) (r .steps) (r .eid) (r .slot)
+        ≡ runFrom (request kind wanted lines) wanted (begun (before p timer ram rom belt) 0) ⌝ }
 {
     let mut state = p;
     let mut ticking = timer;
@@ -37,6 +51,7 @@ fn turns(
     let mut last = tlb::first(&state.tlbhigh);
     let mut steps = 0;
     let mut eid = Processor::NO_EXCEPTION;
+    let mut slot = tlb::NO_SLOT;
     while steps < wanted {
         // The step sees the timer as it was. Ticked it is already; a store to the timer ticks what it stored.
         let former = ticking;
@@ -58,7 +73,8 @@ fn turns(
         let made = steps;
         steps += 1;
         match action {
-            Coded::Write(n, v, next) => {
+            Coded::Write(n, v, next, served) => {
+                slot = last_slot(steps, wanted, served);
                 let i = (n % 32) as usize;
                 if i == 0 {
                     // As for every branch.
@@ -70,25 +86,26 @@ fn turns(
                     state.pc = change.pc;
                 }
             }
-            Coded::Store(width, physical, v) => {
+            Coded::Store(width, physical, v, served) => {
+                slot = last_slot(steps, wanted, served);
                 // The look has found that something answers.
                 let settled = load_store::store(former, ram, rom, belt, width, physical, v);
                 let stored = settled.timer;
                 ticking = stored.tick();
                 state = state.jump(sums::add(state.pc, 4));
             }
-            Coded::Rfx(_, _, _)
-            | Coded::Mvfs(_, _, _)
-            | Coded::Mvts(_, _, _)
-            | Coded::Tbs(_, _, _)
-            | Coded::Tbwr(_, _, _)
-            | Coded::Tbri(_, _, _)
-            | Coded::Tbwi(_, _, _) => {
+            Coded::Rfx(_, _, _, _)
+            | Coded::Mvfs(_, _, _, _)
+            | Coded::Mvts(_, _, _, _)
+            | Coded::Tbs(_, _, _, _)
+            | Coded::Tbwr(_, _, _, _)
+            | Coded::Tbri(_, _, _, _)
+            | Coded::Tbwi(_, _, _, _) => {
                 state.replacement = tlb::replacement_after(made, first);
                 state = actions::done(state, action);
                 last = tlb::first(&state.tlbhigh);
             }
-            Coded::Exception(number, address, _) => {
+            Coded::Exception(number, address, _, _) => {
                 state = state.enter(number, address);
                 if kind {
                     eid = number;
@@ -103,6 +120,7 @@ fn turns(
         refusal: 0,
         steps: steps,
         eid: eid,
+        slot: slot,
     }
 }
 
@@ -117,8 +135,8 @@ pub fn advance(
     lines: u32,
     kind: bool,
 ) -> Ran
-    ensures { λ r. ⌜ outcome (after (r .processor) (r .timer) ram rom belt) (r .refusal) (r .steps) (r .eid)
-        ≡ runFrom (request kind wanted lines) wanted 0 (before p timer ram rom belt) ⌝ }
+    ensures { λ r. ⌜ outcome (after (r .processor) (r .timer) ram rom belt) (r .refusal) (r .steps) (r .eid) (r .slot)
+        ≡ runFrom (request kind wanted lines) wanted (begun (before p timer ram rom belt) 0) ⌝ }
 {
     let made = turns(p, timer, ram, rom, belt, wanted, lines, kind);
     let mut processor = made.processor;
@@ -130,14 +148,16 @@ pub fn advance(
         refusal: made.refusal,
         steps: made.steps,
         eid: made.eid,
+        slot: made.slot,
     }
 }
 
-// The processor and the timer after a step, and the exception that it accepted, or 32.
+// The processor and the timer after a step, the exception that it accepted, or 32, and the slot of its data access, or 33.
 pub struct Stepped {
     pub processor: Processor,
     pub timer: Timer,
     pub eid: u32,
+    pub slot: u32,
 }
 
 // One step is a run of one step, to exception.
@@ -149,7 +169,7 @@ pub fn step(
     belt: &mut [u8],
     lines: u32,
 ) -> Stepped
-    ensures { λ r. ⌜ stepped (after (r .processor) (r .timer) ram rom belt) (r .eid) ≡ stepOf (before p timer ram rom belt) lines ⌝ }
+    ensures { λ r. ⌜ stepped (after (r .processor) (r .timer) ram rom belt) (r .eid) (r .slot) ≡ stepOf (before p timer ram rom belt) lines ⌝ }
 {
     let ran = advance(p, timer, ram, rom, belt, 1, lines, true);
     let next = ran.processor;
@@ -158,5 +178,6 @@ pub fn step(
         processor: next,
         timer: ticked,
         eid: ran.eid,
+        slot: ran.slot,
     }
 }

@@ -17,7 +17,7 @@ fn checked(
     lines: u16,
     kind: bool,
 ) -> Ran
-    ensures { λ r. ⌜ outcome (after (r .processor) (r .timer) ram rom belt) (r .refusal) (r .steps) (r .eid)
+    ensures { λ r. ⌜ outcome (after (r .processor) (r .timer) ram rom belt) (r .refusal) (r .steps) (r .eid) (r .slot)
         ≡ runOf (request kind wanted lines) (before p timer ram rom belt) ⌝ }
 {
     let number = refusals::of_run(p, timer, ram.len(), rom.len(), belt.len(), wanted);
@@ -28,6 +28,7 @@ fn checked(
             refusal: number,
             steps: 0,
             eid: Processor::NO_EXCEPTION,
+            slot: tlb::NO_SLOT,
         };
     }
     run_loop::advance(p, timer, ram, rom, belt, wanted as u32, lines as u32, kind)
@@ -43,7 +44,7 @@ pub fn run(
     wanted: u64,
     lines: u16,
 ) -> Ran
-    ensures { λ r. ⌜ outcome (after (r .processor) (r .timer) ram rom belt) (r .refusal) (r .steps) (r .eid)
+    ensures { λ r. ⌜ outcome (after (r .processor) (r .timer) ram rom belt) (r .refusal) (r .steps) (r .eid) (r .slot)
         ≡ runOf (request plain wanted lines) (before p timer ram rom belt) ⌝ }
 {
     checked(p, timer, ram, rom, belt, wanted, lines, false)
@@ -59,7 +60,7 @@ pub fn run_to_exception(
     wanted: u64,
     lines: u16,
 ) -> Ran
-    ensures { λ r. ⌜ outcome (after (r .processor) (r .timer) ram rom belt) (r .refusal) (r .steps) (r .eid)
+    ensures { λ r. ⌜ outcome (after (r .processor) (r .timer) ram rom belt) (r .refusal) (r .steps) (r .eid) (r .slot)
         ≡ runOf (request toException wanted lines) (before p timer ram rom belt) ⌝ }
 {
     checked(p, timer, ram, rom, belt, wanted, lines, true)

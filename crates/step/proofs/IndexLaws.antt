@@ -26,8 +26,8 @@ system-leaves p Tbwi = refl
 
 pub action-leaves : (p : Processor) (a : Action) → processorAfter p a .replacement ≡ p .replacement
 unfolding written jumped entered
-action-leaves p (Write n v next) = refl
-action-leaves p (Store width physical v) = refl
+action-leaves p (Write n v next slot) = refl
+action-leaves p (Store width physical v slot) = refl
 action-leaves p (System i) = system-leaves p i
 action-leaves p (Exception eid address) = refl
 

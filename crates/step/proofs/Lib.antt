@@ -4,6 +4,7 @@ pub mod IndexLaws
 pub mod TimerCases
 pub mod StarredCases
 pub mod StepLaws
+pub mod SlotLaws
 pub mod PcLaws
 pub mod StepFit
 pub mod RepresentableKept

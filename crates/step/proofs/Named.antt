@@ -51,7 +51,7 @@ channel-range psw lines h = go (eqb (interruptCurrent psw) 1) h
     go false k = absurd (omega arith)
 
 decoded-named : (s : Surroundings) (registers : List ℕ) (pc : ℕ) (r : Read) → NamedRead r → Named (decoded s registers pc r)
-decoded-named s registers pc (Value word) h = executed-named s (operandsOf registers pc word)
+decoded-named s registers pc (Value word slot) h = executed-named s (operandsOf registers pc word)
 decoded-named s registers pc (Fault eid) h = h
 
 look-named : (m : Machine) (lines : ℕ) → Named (look m lines)

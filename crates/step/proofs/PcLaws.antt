@@ -23,14 +23,14 @@ use Rattle.actions.specs.Actions.{systemDone, processorAfter}
 
 -- a register write that goes on to the next instruction, or an exception
 abbrev GoesOn : Operands → Action → Type 0
-GoesOn o (Write n v next) = next ≡ o .next
-GoesOn o (Store width physical v) = ⊥
+GoesOn o (Write n v next slot) = next ≡ o .next
+GoesOn o (Store width physical v slot) = ⊥
 GoesOn o (System i) = ⊥
 GoesOn o (Exception eid address) = Unit {0}
 
 computed-goes-on : (o : Operands) (a : Action) → Computed o a → GoesOn o a
-computed-goes-on o (Write n v next) h = h .0
-computed-goes-on o (Store width physical v) h = h
+computed-goes-on o (Write n v next slot) h = h .0
+computed-goes-on o (Store width physical v slot) h = h
 computed-goes-on o (System i) h = h
 computed-goes-on o (Exception eid address) h = tt
 
@@ -40,7 +40,7 @@ computation-goes-on opcode o =
 
 -- so does a load that completes
 landed-goes-on : (extend : ℕ → ℕ) (o : Operands) (r : Read) → GoesOn o (landed extend (fieldY (o .word)) (addressOf o) (o .next) r)
-landed-goes-on extend o (Value v) = refl
+landed-goes-on extend o (Value v slot) = refl
 landed-goes-on extend o (Fault eid) = tt
 
 pub load-goes-on : (width : ℕ) (extend : ℕ → ℕ) (s : Surroundings) (o : Operands) → GoesOn o (load width extend s o)
@@ -48,9 +48,9 @@ unfolding load
 load-goes-on width extend s o = landed-goes-on extend o (readFrom width s (addressOf o))
 
 -- a store that completes, and a system instruction but RFX, go on from the fetched instruction's PC; RFX goes to R30
-pub store-goes-on : (p : Processor) (width physical v : ℕ) → processorAfter p (Store width physical v) .pc ≡ sum (p .pc) 4
+pub store-goes-on : (p : Processor) (width physical v slot : ℕ) → processorAfter p (Store width physical v slot) .pc ≡ sum (p .pc) 4
 unfolding jumped
-store-goes-on p width physical v = refl
+store-goes-on p width physical v slot = refl
 
 pub system-goes-on : (p : Processor) (i : SystemInstruction) → (i ≡ Rfx → ⊥) → systemDone i p .pc ≡ sum (p .pc) 4
 unfolding systemDone written jumped specialWritten searched randomWritten indexedWritten entryWritten entryRead

@@ -28,8 +28,8 @@ module _ (p : Processor) (f : Fit p) where
   system-fit Tbwi = indexed-fit (onward p) (jumped-fit p f _)
 
   after-fit : (a : Action) → Fit (processorAfter p a)
-  after-fit (Write n v next) = written-fit p f n v next
-  after-fit (Store width physical v) = jumped-fit p f (sum (p .pc) 4)
+  after-fit (Write n v next slot) = written-fit p f n v next
+  after-fit (Store width physical v slot) = jumped-fit p f (sum (p .pc) 4)
   after-fit (System i) = system-fit i
   after-fit (Exception eid address) = entered-fit p f eid address
 
@@ -38,8 +38,8 @@ unfolding stepOf
 step-fit m lines f = moved-fit _ (after-fit (m .processor) f (look m lines))
 
 timer-done-fits : (t : Timer) (m : Memory) → t .control ≤ 3 → (a : Action) → timerDone t m a .control ≤ 3
-timer-done-fits t m h (Write n v next) = h
-timer-done-fits t m h (Store width physical v) = store-fits (accessWidth width) t h m physical v
+timer-done-fits t m h (Write n v next slot) = h
+timer-done-fits t m h (Store width physical v slot) = store-fits (accessWidth width) t h m physical v
 timer-done-fits t m h (System i) = h
 timer-done-fits t m h (Exception eid address) = h
 

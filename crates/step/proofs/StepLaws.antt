@@ -34,7 +34,7 @@ module _ (m : Machine) (lines : ℕ) where
   fetch-fault-named h f = step-eid m lines _ (nothing-before-the-fetch h) ∙ go (readFrom 4 (surroundingsOf m) (m .processor .pc)) f
     where
       go : (r : Read) → readEid r < 32 → eidOf (decoded (surroundingsOf m) (m .processor .registers) (m .processor .pc) r) ≡ readEid r
-      go (Value word) l = absurd (omega (arith, l))
+      go (Value word slot) l = absurd (omega (arith, l))
       go (Fault eid) l = refl
 
   -- ---- a fault leaves only the effects of exception entry and what every step does, and is named

@@ -58,7 +58,7 @@ module _ (m : Machine) (r : Representable m) where
       }
 
   decoded-small : (a : Read) → Small (decoded (surroundingsOf m) (p .registers) (p .pc) a)
-  decoded-small (Value word) =
+  decoded-small (Value word slot) =
       executed-small (surroundingsOf m) (operandsOf (p .registers) (p .pc) word) (lent m r, r .timer) (operands-words word)
   decoded-small (Fault eid) = r .pc
 
@@ -83,8 +83,8 @@ module _ (m : Machine) (r : Representable m) where
   system-representable Tbwi h = indexed-representable (having m (onward p)) moved
 
   done-representable : (a : Action) → Small a → Representable (done m a)
-  done-representable (Write n v next) h = end-kept (written-representable m r n v next (h .0) (h .1))
-  done-representable (Store width physical v) h =
+  done-representable (Write n v next slot) h = end-kept (written-representable m r n v next (h .0) (h .1))
+  done-representable (Store width physical v slot) h =
       let b : Bytewise (memoryAfter (accessWidth width) (m .memory) physical v) =
       store-bytewise (accessWidth width) (m .memory) (lent m r) physical v in
       end-kept

@@ -1,11 +1,12 @@
 -- One step (document 01, "One step"; manual, 3.2): a look, which changes nothing and names an action, then the action, then what every step does
--- (document 02, jobs 1 and 4).
+-- (document 02, jobs 1 and 4), and what the step tells (job 2).
 use Prim.Native.Nat.{ℕ}
 use Rattle.memory.specs.Map.{Memory}
 use Rattle.memory.specs.Access.{accessWidth, memoryAfter, timerAfter}
 use Rattle.timer.specs.Timer.{linesWith, ticked}
 use Rattle.timer.specs.declared.Timer.{Timer}
 use Rattle.words.specs.Identifiers.{noException}
+use Rattle.tlb.specs.Lookup.{noSlot}
 use Rattle.processor.specs.Tlb.{indexMoved}
 use Rattle.instructions.specs.Operands.{Surroundings, surroundings}
 use Rattle.instructions.specs.Action.{Action, Write, Store, System, Exception}
@@ -25,23 +26,30 @@ look m lines = lookFrom (surroundingsOf m) (m .processor .registers) (m .process
 -- ---- the action
 
 abbrev pub memoryDone : Memory → Action → Memory
-memoryDone m (Write n v next) = m
-memoryDone m (Store width physical v) = memoryAfter (accessWidth width) m physical v
+memoryDone m (Write n v next slot) = m
+memoryDone m (Store width physical v slot) = memoryAfter (accessWidth width) m physical v
 memoryDone m (System i) = m
 memoryDone m (Exception eid address) = m
 
 abbrev pub timerDone : Timer → Memory → Action → Timer
-timerDone t m (Write n v next) = t
-timerDone t m (Store width physical v) = timerAfter (accessWidth width) t m physical v
+timerDone t m (Write n v next slot) = t
+timerDone t m (Store width physical v slot) = timerAfter (accessWidth width) t m physical v
 timerDone t m (System i) = t
 timerDone t m (Exception eid address) = t
 
 -- the exception that is accepted, or `noException`
 abbrev pub eidOf : Action → ℕ
-eidOf (Write n v next) = noException
-eidOf (Store width physical v) = noException
+eidOf (Write n v next slot) = noException
+eidOf (Store width physical v slot) = noException
 eidOf (System i) = noException
 eidOf (Exception eid address) = eid
+
+-- the slot of the data access, or `noSlot`: a load or a store that completes has one
+abbrev pub slotOf : Action → ℕ
+slotOf (Write n v next slot) = slot
+slotOf (Store width physical v slot) = slot
+slotOf (System i) = noSlot
+slotOf (Exception eid address) = noSlot
 
 abbrev pub acted : Machine → Action → Machine
 acted m a =
@@ -60,17 +68,22 @@ done m a = ended (acted m a)
 
 -- ---- the step
 
--- what a step tells: the exception that it accepted, or `noException`
+-- what a step tells: the exception that it accepted, or `noException`, and the slot of its data access, or `noSlot`
 pub record Event : Type 0 where
   pub eid : ℕ
+  pub slot : ℕ
+
+abbrev pub told : Action → Event
+told a = record { eid = eidOf a; slot = slotOf a }
 
 -- the machine after a step, and the step's event
 pub record Stepped : Type 0 where
   pub machine : Machine
   pub event : Event
 
-abbrev pub stepped : Machine → ℕ → Stepped
-stepped m eid = record { machine = m; event = record { eid = eid } }
-
 unfoldable pub stepOf : Machine → ℕ → Stepped
-stepOf m lines = stepped (done m (look m lines)) (eidOf (look m lines))
+stepOf m lines = record { machine = done m (look m lines); event = told (look m lines) }
+
+-- as a contract names it, of what the code answers
+abbrev pub stepped : Machine → ℕ → ℕ → Stepped
+stepped m eid slot = record { machine = m; event = record { eid = eid; slot = slot } }

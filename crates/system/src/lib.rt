@@ -12,7 +12,7 @@ fn privileged(psw: u32, action: Coded) -> Coded
     ensures { λ r. ⌜ actionOf r ≡ privileged psw (actionOf action) ⌝ }
 {
     if status::is_user_mode(psw) {
-        return Coded::Exception(Processor::PRIVILEGED_INSTRUCTION, 0, 0);
+        return Coded::Exception(Processor::PRIVILEGED_INSTRUCTION, 0, 0, 0);
     }
     action
 }
@@ -22,9 +22,9 @@ pub fn trap(kind: u32, psw: u32, y: u32, word: u32) -> Coded
     ensures { λ r. ⌜ actionOf r ≡ getD traps kind illegalSystem psw y word ⌝ }
 {
     match kind {
-        0 => Coded::Exception(Processor::TRAP, 0, 0),
-        1 => privileged(psw, Coded::Rfx(0, 0, 0)),
-        _ => Coded::Exception(Processor::ILLEGAL_INSTRUCTION, 0, 0),
+        0 => Coded::Exception(Processor::TRAP, 0, 0, 0),
+        1 => privileged(psw, Coded::Rfx(0, 0, 0, 0)),
+        _ => Coded::Exception(Processor::ILLEGAL_INSTRUCTION, 0, 0, 0),
     }
 }
 
@@ -34,12 +34,12 @@ pub fn system(kind: u32, psw: u32, y: u32, word: u32) -> Coded
 {
     let number = word % 0x1_0000;
     match kind {
-        0 => privileged(psw, Coded::Mvfs(number, word / 0x1_0000 % 32, 0)),
-        1 => privileged(psw, Coded::Mvts(number, y, 0)),
-        2 => privileged(psw, Coded::Tbs(0, 0, 0)),
-        3 => privileged(psw, Coded::Tbwr(0, 0, 0)),
-        4 => privileged(psw, Coded::Tbri(0, 0, 0)),
-        5 => privileged(psw, Coded::Tbwi(0, 0, 0)),
-        _ => Coded::Exception(Processor::ILLEGAL_INSTRUCTION, 0, 0),
+        0 => privileged(psw, Coded::Mvfs(number, word / 0x1_0000 % 32, 0, 0)),
+        1 => privileged(psw, Coded::Mvts(number, y, 0, 0)),
+        2 => privileged(psw, Coded::Tbs(0, 0, 0, 0)),
+        3 => privileged(psw, Coded::Tbwr(0, 0, 0, 0)),
+        4 => privileged(psw, Coded::Tbri(0, 0, 0, 0)),
+        5 => privileged(psw, Coded::Tbwi(0, 0, 0, 0)),
+        _ => Coded::Exception(Processor::ILLEGAL_INSTRUCTION, 0, 0, 0),
     }
 }

@@ -8,6 +8,7 @@ use native.Mathlib.Omega.{arith}
 use lib.Dec.{eqb}
 use lib.ListN.{getD}
 use borrow.Author.Tests.{eqb-true, eqb-false, eq-eqb, ne-eqb}
+use Rattle.words.proofs.Cases.{below-or-not}
 use Rattle.tlb.specs.Lookup.{pageOf, findFrom, lookup}
 
 module _ (highs : List ℕ) (page : ℕ) where
@@ -54,6 +55,23 @@ module _ (highs : List ℕ) (page : ℕ) where
           → pageOf (getD highs (findFrom (suc n) highs i page) 0) ≡ page
       go true e rest = simp e (eqb-true _ _ e)
       go false e rest = simp e (rest (omega (arith, simp e at h)))
+
+  -- and none before it has
+  none-before : (n i j : ℕ) → i ≤ j → j < findFrom n highs i page → pageOf (getD highs j 0) ≡ page → ⊥
+  unfolding findFrom
+  none-before zero i j h k same = omega arith
+  none-before (suc n) i j h k same = go (eqb (pageOf (getD highs i 0)) page) refl (none-before n (suc i) j)
+    where
+      go : (t : Bool) → eqb (pageOf (getD highs i 0)) page ≡ t
+          → (suc i ≤ j → j < findFrom n highs (suc i) page → pageOf (getD highs j 0) ≡ page → ⊥) → ⊥
+      go true e rest = omega (arith, simp e at k)
+      go false e rest =
+          below-or-not i j (λ l. rest (omega arith) (simp e at k) same)
+          (λ l. eqb-false _ _ e (let here : i ≡ j = omega arith in ap (λ (a : ℕ). pageOf (getD highs a 0)) here ∙ same))
+
+  pub lookup-first : (j : ℕ) → j < lookup highs page → pageOf (getD highs j 0) ≡ page → ⊥
+  unfolding lookup
+  lookup-first j = none-before 32 0 j (omega arith)
 
   pub lookup-has : lookup highs page < 32 → pageOf (getD highs (lookup highs page) 0) ≡ page
   unfolding lookup

@@ -1,5 +1,5 @@
 -- The TLB entry of a page, what TBS answers for it, and the replacement index, which goes round by itself (manual, 2.9, 3.6.5 and 3.6.6;
--- document 01, "Closed by us"; document 02, job 4).
+-- document 01, "Closed by us"; document 02, jobs 2 and 4).
 use mathlib.Core.Bool.{cond}
 use mathlib.Core.List.{List}
 use Prim.Native.Nat.{ℕ, zero, suc, _+_, _/_}
@@ -13,6 +13,14 @@ pageOf word = word / 4096
 -- a TLB index is below 32; this stands for none
 abbrev pub noEntry : ℕ
 noEntry = 32
+
+-- the slot of an access is the index of the TLB entry that served it; this one is that of a direct-mapped address, which needs no entry
+abbrev pub directMapped : ℕ
+directMapped = 32
+
+-- and this stands for none: no data access, or one that faulted
+abbrev pub noSlot : ℕ
+noSlot = 33
 
 -- the first of the n TLB entries from i on that has a page number, or i + n
 unfoldable pub findFrom : ℕ → List ℕ → ℕ → ℕ → ℕ

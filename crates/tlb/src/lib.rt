@@ -6,6 +6,11 @@ ghost use mathlib.Core.Bool.{cond};
 ghost use lib.Dec.{leb};
 ghost use lib.ListN.{getD};
 
+// A slot is the index of the entry that served an access. These two stand for a direct-mapped address, and for none (document 02, job 2).
+pub const DIRECT_MAPPED: u32 = 32;
+
+pub const NO_SLOT: u32 = 33;
+
 // The high words of the TLB.
 pub type Words = [u32; 32];
 

@@ -7,9 +7,13 @@ use Rattle.access.specs.Reads.{readFrom}
 use Rattle.access.specs.declared.Read.{Read}
 use Rattle.access.specs.Writes.{storeTo}
 use Rattle.instructions.specs.Operands.{Surroundings, Operands, Meaning, simple, illegal}
-use Rattle.instructions.specs.Action.{Action}
+use Rattle.instructions.specs.Action.{Action, Write}
 use Rattle.transfer.specs.Transfer.{addressOf, landed, transfers}
 use Rattle.transfer.specs.Code.{storedBytes}
+
+-- a value that is known, into its register
+pub valued : (number next slot : ℕ) {v w : ℕ} → v ≡ w → Write number v next slot ≡ Write number w next slot
+valued number next slot e = ap (λ (v : ℕ). Write number v next slot) e
 
 pub lands : (extend : ℕ → ℕ) (number next width : ℕ) (s : Surroundings) (a b : ℕ) (r : Read) {action : Action}
     → action ≡ landed extend number a next r → r ≡ readFrom width s a → a ≡ b

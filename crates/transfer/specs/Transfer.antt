@@ -16,9 +16,9 @@ use Rattle.access.specs.Writes.{storeTo}
 abbrev pub addressOf : Operands → ℕ
 addressOf o = sum (o .x) (immediateS o)
 
--- a value extended into a register, or the fault
+-- a value extended into a register, with the slot that served it, or the fault
 abbrev pub landed : (ℕ → ℕ) → ℕ → ℕ → ℕ → Read → Action
-landed extend number address next (Value v) = Write number (extend v) next
+landed extend number address next (Value v slot) = Write number (extend v) next slot
 landed extend number address next (Fault eid) = Exception eid address
 
 unfoldable pub load : ℕ → (ℕ → ℕ) → Meaning

@@ -33,8 +33,8 @@ fn land(kind: u32, read: Read, number: u32, address: u32, next: u32) -> Coded
     ensures { λ r. ⌜ actionOf r ≡ landed (getD extensions kind (zeroExtend 8)) number address next read ⌝ }
 {
     match read {
-        Read::Value(v) => Coded::Write(number, extend(kind, v), next),
-        Read::Fault(eid) => Coded::Exception(eid, address, 0),
+        Read::Value(v, slot) => Coded::Write(number, extend(kind, v), next, slot),
+        Read::Fault(eid) => Coded::Exception(eid, address, 0, 0),
     }
 }
 
@@ -116,6 +116,6 @@ pub fn transfer<'a>(
             y,
             address,
         ),
-        _ => Coded::Exception(Processor::ILLEGAL_INSTRUCTION, 0, 0),
+        _ => Coded::Exception(Processor::ILLEGAL_INSTRUCTION, 0, 0, 0),
     }
 }

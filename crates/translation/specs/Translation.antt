@@ -1,4 +1,5 @@
--- The translation of a virtual address (document 01, "One step", last paragraph; manual, 2.9.1 to 2.9.4).
+-- The translation of a virtual address (document 01, "One step", last paragraph; manual, 2.9.1 to 2.9.4), and the slot that served
+-- it (document 02, job 2).
 use mathlib.Core.Bool.{Bool, not, cond}
 use mathlib.Core.List.{List}
 use Prim.Native.Nat.{ℕ, _+_, _*_, _-_, _/_, _%_}
@@ -7,7 +8,7 @@ use lib.ListN.{getD}
 use Rattle.words.specs.Logic.{both}
 use Rattle.status.specs.Psw.{userMode}
 use Rattle.words.specs.Identifiers.{tlbMiss, tlbWrite, tlbInvalid, illegalAddress, privilegedAddress, noException}
-use Rattle.tlb.specs.Lookup.{pageOf, noEntry, lookup}
+use Rattle.tlb.specs.Lookup.{pageOf, noEntry, directMapped, noSlot, lookup}
 use Rattle.translation.specs.declared.Width.{Width}
 use Rattle.translation.specs.declared.Width.the-variants.{Byte, Half, Word}
 use Rattle.translation.specs.declared.Translation.{Translation}
@@ -29,20 +30,20 @@ valid low = eqb (low % 2) 1
 unfoldable pub writable : ℕ → Bool
 writable low = eqb (low / 2 % 2) 1
 
--- through the low word of the page's entry
-unfoldable pub through : ℕ → Bool → ℕ → Translation
-through low store address =
+-- through the low word of the page's entry, in its slot
+unfoldable pub through : ℕ → ℕ → Bool → ℕ → Translation
+through low slot store address =
     cond (not (valid low))
     TlbInvalid
     (cond (both store (not (writable low)))
     TlbWrite
-    (Physical (frameOf low * 4096 + address % 4096)))
+    (Physical (frameOf low * 4096 + address % 4096) slot))
 
 -- below C0000000: by the TLB
 unfoldable pub mapped : List ℕ → List ℕ → Bool → ℕ → Translation
 mapped highs lows store address =
     cond (ltb (lookup highs (pageOf address)) noEntry)
-    (through (getD lows (lookup highs (pageOf address)) 0) store address)
+    (through (getD lows (lookup highs (pageOf address)) 0) (lookup highs (pageOf address)) store address)
     TlbMiss
 
 -- a privileged address in User Mode
@@ -57,21 +58,24 @@ translated psw highs lows width store address =
     (cond (forbidden psw address)
     PrivilegedAddress
     (cond (leb 0xC0000000 address)
-    (Physical (address - 0xC0000000))
+    (Physical (address - 0xC0000000) directMapped)
     (mapped highs lows store address)))
 
--- what becomes of a translation: of the physical address, or of the fault by its number (document 01, "One step")
-abbrev pub resolved : {A : Type 0} → (ℕ → A) → (ℕ → A) → Translation → A
-resolved at fault (Physical address) = at address
+-- what becomes of a translation: of the physical address and its slot, or of the fault by its number (document 01, "One step")
+abbrev pub resolved : {A : Type 0} → (ℕ → ℕ → A) → (ℕ → A) → Translation → A
+resolved at fault (Physical address slot) = at address slot
 resolved at fault TlbMiss = fault tlbMiss
 resolved at fault TlbWrite = fault tlbWrite
 resolved at fault TlbInvalid = fault tlbInvalid
 resolved at fault IllegalAddress = fault illegalAddress
 resolved at fault PrivilegedAddress = fault privilegedAddress
 
--- the numbers of an answer: the exception that it names, or `noException`; and the physical address, 0 where it faults
+-- the numbers of an answer: the exception that it names, or `noException`; the physical address, 0 where it faults; and the slot, then `noSlot`
 abbrev pub translationEid : Translation → ℕ
-translationEid t = resolved (λ address. noException) (λ eid. eid) t
+translationEid t = resolved (λ address slot. noException) (λ eid. eid) t
 
 abbrev pub physicalOf : Translation → ℕ
-physicalOf t = resolved (λ address. address) (λ eid. 0) t
+physicalOf t = resolved (λ address slot. address) (λ eid. 0) t
+
+abbrev pub translationSlot : Translation → ℕ
+translationSlot t = resolved (λ address slot. slot) (λ eid. noSlot) t

@@ -19,7 +19,8 @@ pub enum Width {
 }
 
 pub enum Translation {
-    Physical(u32),
+    // The physical address, and the slot that served it.
+    Physical(u32, u32),
     TlbMiss,
     TlbWrite,
     TlbInvalid,
@@ -46,8 +47,8 @@ pub fn is_forbidden(psw: u32, address: u32) -> bool
     status::is_user_mode(psw)
 }
 
-fn through(low: u32, store: bool, address: u32) -> Translation
-    ensures { λ r. ⌜ r ≡ through low store address ⌝ }
+fn through(low: u32, slot: u32, store: bool, address: u32) -> Translation
+    ensures { λ r. ⌜ r ≡ through low slot store address ⌝ }
 {
     if low % 2 != 1 {
         return Translation::TlbInvalid;
@@ -56,17 +57,17 @@ fn through(low: u32, store: bool, address: u32) -> Translation
         if low / 2 % 2 != 1 {
             return Translation::TlbWrite;
         }
-        return Translation::Physical(low / 0x1000 * 0x1000 + address % 0x1000);
+        return Translation::Physical(low / 0x1000 * 0x1000 + address % 0x1000, slot);
     }
-    Translation::Physical(low / 0x1000 * 0x1000 + address % 0x1000)
+    Translation::Physical(low / 0x1000 * 0x1000 + address % 0x1000, slot)
 }
 
 // By the index of the page's entry, or 32.
 pub fn by_entry(lows: &Words, i: usize, store: bool, address: u32) -> Translation
-    ensures { λ r. ⌜ r ≡ cond (ltb i noEntry) (through (getD (now (lows .entry)) i 0) store address) TlbMiss ⌝ }
+    ensures { λ r. ⌜ r ≡ cond (ltb i noEntry) (through (getD (now (lows .entry)) i 0) i store address) TlbMiss ⌝ }
 {
     if i < 32 {
-        return through(lows[i], store, address);
+        return through(lows[i], i as u32, store, address);
     }
     Translation::TlbMiss
 }
@@ -91,7 +92,7 @@ pub fn translate_at<'a>(
         return Translation::PrivilegedAddress;
     }
     if 0xC000_0000 <= address {
-        return Translation::Physical(address - 0xC000_0000);
+        return Translation::Physical(address - 0xC000_0000, tlb::DIRECT_MAPPED);
     }
     by_entry(lows, i, store, address)
 }
@@ -115,7 +116,7 @@ pub fn eid_of(answer: Translation) -> u32
     ensures { λ r. ⌜ r ≡ translationEid answer ⌝ }
 {
     match answer {
-        Translation::Physical(_) => Processor::NO_EXCEPTION,
+        Translation::Physical(_, _) => Processor::NO_EXCEPTION,
         Translation::TlbMiss => Processor::TLB_MISS,
         Translation::TlbWrite => Processor::TLB_WRITE,
         Translation::TlbInvalid => Processor::TLB_INVALID,

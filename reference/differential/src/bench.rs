@@ -2,9 +2,10 @@
 
 use crate::watch;
 use crate::world::{Call, Outcome, World};
+use eco32_reference::host::View;
 use eco32_reference::vectors::observe::Observer;
 use eco32_reference::vectors::tally::Tally;
-use eco32_reference::OLD_RECORD_LENGTH;
+use eco32_reference::{Answer, OLD_RECORD_LENGTH};
 
 /// What differs, in words; the end of the test.
 pub type Difference = String;
@@ -49,6 +50,7 @@ impl Bench {
         if written == Some(OLD_RECORD_LENGTH) && wanted.refusal() == 4 {
             tally.add("refused 414 bytes written", call.name());
         }
+        count_slot(call, wanted, tally);
         Ok(wanted)
     }
 
@@ -74,6 +76,31 @@ impl Bench {
             }
         }
         Ok(outcome)
+    }
+}
+
+/// The slot of an answer (document 02, job 2).
+fn count_slot(call: Call, outcome: Outcome, tally: &mut Tally) {
+    let name = call.name();
+    match outcome {
+        Outcome::Number(_) => {}
+        Outcome::View(view) if view.refusal == 0 => {
+            tally.add("slot of a page view", view.slot.to_string());
+        }
+        Outcome::Answer(answer) if answer.steps > 0 => {
+            let heading = match answer.steps {
+                1 => "slot of one step",
+                _ => "slot of the last of several steps",
+            };
+            tally.add(heading, format!("{name} {}", answer.slot));
+        }
+        Outcome::View(View { slot, .. }) => {
+            tally.add("slot without an access", format!("{name} refused {slot}"));
+        }
+        Outcome::Answer(Answer { refusal, slot, .. }) => {
+            let why = if refusal == 0 { "0 steps" } else { "refused" };
+            tally.add("slot without an access", format!("{name} {why} {slot}"));
+        }
     }
 }
 

@@ -28,6 +28,7 @@ pub fn required() -> Vec<Required> {
     runs(&mut list);
     records(&mut list);
     views(&mut list);
+    slots(&mut list);
     isolation(&mut list);
     list.0
 }
@@ -131,6 +132,33 @@ fn views(list: &mut List) {
             "above FFFFF",
         ],
     );
+}
+
+/// Document 02, job 2: each slot, and 33 where there is none.
+fn slots(list: &mut List) {
+    for (heading, least) in [
+        ("slot of one step", 100),
+        ("slot of the last of several steps", 20),
+    ] {
+        for name in ["run", "run_to_exception"] {
+            for slot in 0..=33 {
+                list.add(heading, least, format!("{name} {slot}"));
+            }
+        }
+    }
+    for slot in 0..=32 {
+        list.add("slot of a page view", 50, slot.to_string());
+    }
+    for item in ["run 0 steps", "run_to_exception 0 steps"] {
+        list.add("slot without an access", 100, format!("{item} 33"));
+    }
+    for name in ["run", "run_to_exception", "page_view"] {
+        list.add("slot without an access", 100, format!("{name} refused 33"));
+    }
+    // Direct-mapped addresses are privileged.
+    for slot in (0..32).chain([33]) {
+        list.add("slot of a pair's last step", 50, slot.to_string());
+    }
 }
 
 fn isolation(list: &mut List) {

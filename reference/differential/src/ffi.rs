@@ -8,11 +8,13 @@ struct RawAnswer {
     refusal: u32,
     steps: u32,
     eid: u32,
+    slot: u32,
 }
 
 #[repr(C)]
 struct RawView {
     refusal: u32,
+    slot: u32,
     offset: u64,
     length: u64,
 }
@@ -133,6 +135,7 @@ fn call_run(
         refusal: raw.refusal,
         steps: raw.steps,
         eid: raw.eid,
+        slot: raw.slot,
     }
 }
 
@@ -178,6 +181,7 @@ pub fn page_view(ram: &[u8], machine: &[u8], page: u64) -> View {
     };
     View {
         refusal: raw.refusal,
+        slot: raw.slot,
         offset: raw.offset,
         length: raw.length,
     }

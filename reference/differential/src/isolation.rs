@@ -4,7 +4,7 @@
 
 use crate::bench::{Bench, Counts, Difference};
 use crate::frames::{frames, Frame, Part, Reached, TIMER_FRAME};
-use crate::runs::{agree, list, memory, stream, walk, wanted_steps};
+use crate::runs::{agree, list, memory, stream, walk, wanted_steps, Walked};
 use crate::world::{Call, Outcome, Run, World};
 use eco32_reference::record::REPLACEMENT_AT;
 use eco32_reference::vectors::machines;
@@ -177,23 +177,24 @@ fn follow(
     cut: bool,
     leaving: &mut Leaving,
     counts: &mut Counts,
-) -> (u64, u32) {
+) -> Walked {
     let one = Run {
         to_exception: true,
         wanted: 1,
         lines: run.lines,
     };
-    let mut walked = (0, NO_EXCEPTION);
-    while run.wanted <= MAX_STEPS && walked.0 < run.wanted {
+    let mut walked = Walked::NONE;
+    while run.wanted <= MAX_STEPS && walked.steps < run.wanted {
         leaving.passed = leaving.eid.is_some();
-        let (_, eid) = walk(scene, &one, counts);
-        walked.0 += 1;
+        let Walked { eid, slot, .. } = walk(scene, &one, counts);
+        walked.steps += 1;
+        walked.slot = slot;
         let leaves = leaving.eid.is_none() && !scene.cpu.user_mode();
         if leaves {
             leaving.eid = Some(eid);
         }
         if run.to_exception && eid != NO_EXCEPTION {
-            walked.1 = eid;
+            walked.eid = eid;
             break;
         }
         if leaves && cut {
@@ -216,9 +217,9 @@ pub fn case(numbers: &mut Numbers, counts: &mut Counts) -> Result<(), Difference
         let cut = !run.to_exception && run.wanted <= MAX_STEPS && numbers.percent(70);
         let walked = follow(&mut scene, &run, cut, &mut leaving, counts);
         if cut {
-            run.wanted = walked.0;
+            run.wanted = walked.steps;
         }
-        steps += walked.0;
+        steps += walked.steps;
         pair.run(run, counts)
             .and_then(|answers| {
                 agree(answers[0], walked, &scene, &pair.first)?;
@@ -252,6 +253,10 @@ fn count(answer: Outcome, leaving: &Leaving, counts: &mut Counts) {
         (_, _, Some(_)) => "runs that end with the leaving step",
     };
     counts.calls.add("isolation", item);
+    if answer.steps > 0 && !leaving.passed {
+        let item = answer.slot.to_string();
+        counts.calls.add("slot of a pair's last step", item);
+    }
 }
 
 /// Names of the parts for the required items.

@@ -10,6 +10,7 @@ mod frames;
 mod isolation;
 mod runs;
 mod set;
+mod slots;
 mod systematic;
 mod views;
 mod watch;
@@ -72,6 +73,7 @@ fn case(seed: u64, number: u64, counts: &mut Counts) -> Result<(), Difference> {
 /// The whole test.
 fn all(options: &Options, counts: &mut Counts) -> Result<(), Difference> {
     systematic::all(counts)?;
+    slots::all(counts)?;
     let mut set = SetTest {
         counts,
         cases: 0,

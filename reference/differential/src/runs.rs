@@ -6,7 +6,7 @@ use eco32_reference::vectors::machines;
 use eco32_reference::vectors::numbers::Numbers;
 use eco32_reference::vectors::scene::{Region, Scene};
 use eco32_reference::vectors::stream::{random_lines, Stream};
-use eco32_reference::{write_record, MAX_STEPS, NO_EXCEPTION, RECORD_LENGTH};
+use eco32_reference::{write_record, MAX_STEPS, NO_EXCEPTION, NO_SLOT, RECORD_LENGTH};
 
 /// A scene with memory of random lengths, some words of it random.
 pub fn memory(numbers: &mut Numbers) -> Scene {
@@ -81,31 +81,54 @@ pub fn stream(start: Scene, list: &[Run], numbers: &mut Numbers) -> Scene {
     stream.start
 }
 
-/// The steps of one run, made one by one to count what they cover. Answers
-/// the number of steps and the last EID.
-pub fn walk(scene: &mut Scene, run: &Run, counts: &mut Counts) -> (u64, u32) {
-    let mut steps = 0;
-    while run.wanted <= MAX_STEPS && steps < run.wanted {
-        steps += 1;
-        let eid = counts.steps.step(scene, run.lines);
-        if run.to_exception && eid != NO_EXCEPTION {
-            return (steps, eid);
+/// What the single steps of a run come to: their number, the EID that ends it
+/// or 32, and the slot of the last or 33.
+#[derive(Debug, PartialEq)]
+pub struct Walked {
+    pub steps: u64,
+    pub eid: u32,
+    pub slot: u32,
+}
+
+impl Walked {
+    pub const NONE: Walked = Walked {
+        steps: 0,
+        eid: NO_EXCEPTION,
+        slot: NO_SLOT,
+    };
+}
+
+/// The steps of one run, made one by one to count what they cover.
+pub fn walk(scene: &mut Scene, run: &Run, counts: &mut Counts) -> Walked {
+    let mut walked = Walked::NONE;
+    while run.wanted <= MAX_STEPS && walked.steps < run.wanted {
+        let stepped = counts.steps.step(scene, run.lines);
+        walked.steps += 1;
+        walked.slot = stepped.slot;
+        if run.to_exception && stepped.eid != NO_EXCEPTION {
+            walked.eid = stepped.eid;
+            break;
         }
     }
-    (steps, NO_EXCEPTION)
+    walked
 }
 
 /// Holds the answer and the state of a run to its single steps.
 pub fn agree(
     outcome: Outcome,
-    walked: (u64, u32),
+    walked: Walked,
     scene: &Scene,
     bench: &Bench,
 ) -> Result<(), Difference> {
     let Outcome::Answer(answer) = outcome else {
         return Err("no answer of a run".to_string());
     };
-    if (u64::from(answer.steps), answer.eid) != walked {
+    let answered = Walked {
+        steps: u64::from(answer.steps),
+        eid: answer.eid,
+        slot: answer.slot,
+    };
+    if answered != walked {
         return Err(format!("{answer:?}, but single steps give {walked:?}"));
     }
     let mut record = [0; RECORD_LENGTH];

@@ -4,6 +4,7 @@ use crate::bench::{Bench, Counts, Difference};
 use crate::world::{Call, Outcome, Run, World};
 use eco32_reference::vectors::scene::Scene;
 use eco32_reference::vectors::Sink;
+use eco32_reference::{Answer, Stepped};
 
 pub struct SetTest<'a> {
     pub counts: &'a mut Counts,
@@ -18,7 +19,7 @@ impl SetTest<'_> {
         let mut bench = Bench::new(World::of(start));
         self.counts.steps.begin(lines.len());
         for (n, &lines) in lines.iter().enumerate() {
-            let eid = self.counts.steps.step(&mut scene, lines);
+            let stepped = self.counts.steps.step(&mut scene, lines);
             let run = Run {
                 to_exception: true,
                 wanted: 1,
@@ -27,8 +28,11 @@ impl SetTest<'_> {
             let outcome = bench
                 .call(Call::Run(run), &mut self.counts.calls)
                 .map_err(|what| format!("step {n}: {what}"))?;
-            if !matches!(outcome, Outcome::Answer(answer) if answer.eid == eid) {
-                return Err(format!("step {n}: {outcome:?}, not EID {eid}"));
+            let Outcome::Answer(Answer { eid, slot, .. }) = outcome else {
+                return Err("no answer of a step".to_string());
+            };
+            if stepped != (Stepped { eid, slot }) {
+                return Err(format!("step {n}: {outcome:?}, not {stepped:?}"));
             }
         }
         Ok(())

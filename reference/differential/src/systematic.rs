@@ -16,7 +16,7 @@ const ROM_MOST: usize = 268_435_456;
 
 const RUNS: [Run; 2] = [plain(1), to_exception(1)];
 
-const fn plain(wanted: u64) -> Run {
+pub const fn plain(wanted: u64) -> Run {
     Run {
         to_exception: false,
         wanted,
@@ -24,7 +24,7 @@ const fn plain(wanted: u64) -> Run {
     }
 }
 
-const fn to_exception(wanted: u64) -> Run {
+pub const fn to_exception(wanted: u64) -> Run {
     Run {
         to_exception: true,
         wanted,

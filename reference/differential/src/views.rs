@@ -6,7 +6,7 @@ use crate::world::{Call, Outcome, World};
 use eco32_reference::vectors::machines;
 use eco32_reference::vectors::numbers::Numbers;
 use eco32_reference::vectors::scene::Scene;
-use eco32_reference::OLD_RECORD_LENGTH;
+use eco32_reference::{DIRECT_MAPPED, NO_SLOT, OLD_RECORD_LENGTH};
 
 /// Pages to look at: those of the TLB and their neighbours, the first and last
 /// of each space and of RAM, and numbers that no page has.
@@ -56,6 +56,14 @@ fn kind(scene: &Scene, page: u64) -> String {
     }
 }
 
+/// The first entry with the page, or the direct mapping (document 02, job 2).
+fn slot_of(scene: &Scene, page: u64) -> u32 {
+    let high = (page as u32) << 12;
+    let mut slots = (0..DIRECT_MAPPED).zip(&scene.cpu.tlb);
+    let first = slots.find(|(_, entry)| entry.high == high && page < 0xC0000);
+    first.map_or(DIRECT_MAPPED, |(slot, _)| slot)
+}
+
 pub fn case(numbers: &mut Numbers, counts: &mut Counts) -> Result<(), Difference> {
     let scene = machines::machine(memory(numbers), numbers);
     let mut world = World::of(&scene);
@@ -71,8 +79,11 @@ pub fn case(numbers: &mut Numbers, counts: &mut Counts) -> Result<(), Difference
         let Outcome::View(view) = outcome else {
             return Err("no view".to_string());
         };
-        let length = if in_ram { 4096 } else { 0 };
-        if view.length != length || view.offset % 4096 != 0 {
+        let (slot, length) = match in_ram {
+            true => (slot_of(&scene, page), 4096),
+            false => (NO_SLOT, 0),
+        };
+        if (view.slot, view.length) != (slot, length) || view.offset % 4096 != 0 {
             return Err(format!("page {page:X}: {view:?}"));
         }
         counts.calls.add("page view", kind);

@@ -98,8 +98,8 @@ pub fn data(tally: &mut Tally, step: &Step) {
     let reached = step
         .before
         .translate(address, width_of(opcode), access, user);
-    if let Ok(physical) = reached {
-        place(tally, step, physical);
+    if let Ok(found) = reached {
+        place(tally, step, found.physical);
     }
 }
 

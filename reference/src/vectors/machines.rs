@@ -85,7 +85,7 @@ pub fn executable(scene: &Scene, address: u32, user: bool) -> bool {
     scene
         .cpu
         .translate(address, Width::Word, Access::Load, user)
-        .is_ok_and(|physical| scene.locate(physical).is_some())
+        .is_ok_and(|found| scene.locate(found.physical).is_some())
 }
 
 /// Makes a random machine over the memory of a scene. One in twenty has all

@@ -16,8 +16,11 @@ mod replacement;
 mod replacing;
 pub mod required;
 mod required_replacement;
+mod required_slots;
 mod required_timer;
 pub mod scene;
+mod serving;
+mod slots;
 pub mod stream;
 mod system;
 pub mod tally;
@@ -61,6 +64,7 @@ pub fn cases(sink: &mut dyn Sink) {
     ignored::cases(sink, &mut turn, &mut numbers);
     timer::cases(sink, &mut turn, &mut numbers);
     replacement::cases(sink);
+    slots::cases(sink);
     for _ in 0..STREAMS {
         let steps = 1 + numbers.below(20);
         let stream = Stream::random(&mut numbers, steps);

@@ -7,6 +7,7 @@ use super::scene::Scene;
 use super::tally::Tally;
 use crate::exception::{Fault, NO_EXCEPTION};
 use crate::processor::{Processor, PSW_IC, PSW_V};
+use crate::step::Stepped;
 
 /// Operands and immediates at the edges of their ranges.
 pub const EDGES: [u32; 5] = [0, 1, 0x7FFF_FFFF, 0x8000_0000, 0xFFFF_FFFF];
@@ -31,6 +32,7 @@ pub struct Step<'a> {
     pub fetched: Result<(u32, u32), Fault>,
     pub lines: u16,
     pub eid: u32,
+    pub slot: u32,
     pub word: u32,
 }
 
@@ -80,6 +82,8 @@ pub struct Observer {
     pub(super) raised: Option<&'static str>,
     /// The replacement index in the present case.
     pub(super) course: Course,
+    /// Slot that the step before told.
+    pub(super) last_slot: Option<u32>,
 }
 
 impl Observer {
@@ -88,6 +92,7 @@ impl Observer {
         self.previous = None;
         self.raised = None;
         self.course = Course::default();
+        self.last_slot = None;
         self.tally.add("set", "cases");
         let length = match steps {
             0..=1 => "of 1 step",
@@ -99,26 +104,28 @@ impl Observer {
     }
 
     /// Makes a step of a scene and counts what it covers.
-    pub fn step(&mut self, scene: &mut Scene, lines: u16) -> u32 {
+    pub fn step(&mut self, scene: &mut Scene, lines: u16) -> Stepped {
         let fetched = scene.fetched();
         let before = scene.cpu.clone();
-        let eid = scene.step(lines);
+        let stepped = scene.step(lines);
         self.count(&Step {
             before: &before,
             after: &scene.cpu,
             scene,
             fetched,
             lines,
-            eid,
+            eid: stepped.eid,
+            slot: stepped.slot,
             word: fetched.map_or(0, |(_, word)| word),
         });
-        eid
+        stepped
     }
 
     fn count(&mut self, step: &Step) {
         self.general(step);
         self.timer(step);
         self.replacement(step);
+        self.slots(step);
         self.interrupt_lines(step);
         if step.eid < 16 {
             self.accepted_interrupt(step);

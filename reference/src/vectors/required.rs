@@ -3,6 +3,7 @@
 use super::mnemonics::{group, ignored_bits, mnemonic, opcodes, Group};
 use super::observe::{EDGES, EDGE_IMMEDIATES, EDGE_OFFSETS, SHIFT_COUNTS};
 use super::required_replacement::replacement;
+use super::required_slots::slots;
 use super::required_timer::timer;
 use super::tally::Required;
 
@@ -47,6 +48,7 @@ pub fn required() -> Vec<Required> {
     interrupts(&mut list);
     timer(&mut list);
     replacement(&mut list);
+    slots(&mut list);
     list.0
 }
 

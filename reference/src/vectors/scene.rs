@@ -4,6 +4,7 @@ use crate::exception::Fault;
 use crate::memory::{Memory, Width, BELT_BASE, ROM_BASE};
 use crate::mmu::{Access, DIRECT_BASE};
 use crate::processor::{Processor, TlbEntry, PSW_UC};
+use crate::step::Stepped;
 use crate::timer::{self, Timer};
 
 pub const RAM_LENGTH: usize = 8192;
@@ -147,17 +148,18 @@ impl Scene {
         }
     }
 
-    pub fn step(&mut self, lines: u16) -> u32 {
+    pub fn step(&mut self, lines: u16) -> Stepped {
         let mut cpu = self.cpu.clone();
-        let eid = cpu.step(&mut self.memory(), lines);
+        let stepped = cpu.step(&mut self.memory(), lines);
         self.cpu = cpu;
-        eid
+        stepped
     }
 
     /// Physical address of an access by the present mode.
     pub fn physical(&self, address: u32, width: Width, access: Access) -> Result<u32, Fault> {
         self.cpu
             .translate(address, width, access, self.cpu.user_mode())
+            .map(|found| found.physical)
     }
 
     /// The word at the PC, if it can be fetched, with its physical address.

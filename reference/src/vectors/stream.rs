@@ -63,7 +63,7 @@ impl Stream {
             self.choose(numbers);
         }
         self.lines.push(lines);
-        self.now.step(lines)
+        self.now.step(lines).eid
     }
 
     fn choose(&mut self, numbers: &mut Numbers) {

@@ -20,7 +20,7 @@ impl Step<'_> {
         let reached = self
             .before
             .translate(self.address(), Width::Word, Access::Store, user);
-        register_at(reached.ok()?, Width::Word)
+        register_at(reached.ok()?.physical, Width::Word)
     }
 }
 

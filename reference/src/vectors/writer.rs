@@ -12,6 +12,7 @@ use crate::processor::Processor;
 use crate::record::{
     write_record, CONTROL_AT, COUNTER_AT, DIVISOR_AT, RECORD_LENGTH, REPLACEMENT_AT,
 };
+use crate::step::Stepped;
 
 /// A case begins: the reset machine and memory of zeros are expected.
 pub const CLEAR: u8 = 0;
@@ -24,7 +25,8 @@ pub const ROM_WORD: u8 = 4;
 pub const BELT_WORD: u8 = 5;
 /// The model takes the expected machine and memory.
 pub const START: u8 = 6;
-/// The model makes a step with lines a, which has to accept EID b (32: none).
+/// The model makes a step with lines a, which has to tell b: its slot (33:
+/// none) times 256, and the EID that it accepts (32: none).
 pub const STEP: u8 = 7;
 /// End of the file after b cases.
 pub const END: u8 = 8;
@@ -119,9 +121,9 @@ impl Sink for Writer {
         let mut scene = start.clone();
         for &lines in lines {
             let before = scene.clone();
-            let eid = self.observer.step(&mut scene, lines);
+            let Stepped { eid, slot } = self.observer.step(&mut scene, lines);
             self.patch(&before, &scene);
-            self.command(STEP, usize::from(lines), eid);
+            self.command(STEP, usize::from(lines), 256 * slot + eid);
         }
     }
 }

@@ -1,7 +1,7 @@
 //! A processor with small memories, for the tests.
 #![allow(dead_code)]
 
-use eco32_reference::{Memory, Processor, Timer, TlbEntry};
+use eco32_reference::{Memory, Processor, Stepped, Timer, TlbEntry};
 
 /// PSW with the current mode User Mode and all else 0.
 pub const USER: u32 = 0x0400_0000;
@@ -84,6 +84,11 @@ impl Rig {
     }
 
     pub fn step_with(&mut self, lines: u16) -> u32 {
+        self.stepped(lines).eid
+    }
+
+    /// One step, with its EID and its slot.
+    pub fn stepped(&mut self, lines: u16) -> Stepped {
         let mut memory = Memory {
             ram: &mut self.ram,
             rom: &self.rom,
@@ -110,7 +115,7 @@ impl Rig {
     /// Makes one step and checks that it faults with `eid`, that memory
     /// stays, and that the state is exactly that of exception entry to `pc`
     /// with `psw`, changed by `change` in Bad Address and Entry High, and by
-    /// the move of the replacement index.
+    /// the move of the replacement index. It has no slot.
     #[track_caller]
     pub fn faults(
         &self,
@@ -127,7 +132,7 @@ impl Rig {
         expected.pc = pc;
         expected.replacement = moved(expected.replacement, 1);
         change(&mut expected);
-        assert_eq!(after.step(), eid, "{what}: EID");
+        assert_eq!(after.stepped(0), Stepped { eid, slot: 33 }, "{what}: EID");
         assert_eq!(after.cpu, expected, "{what}: state");
         self.memory_equals(&after, what);
     }

@@ -27,7 +27,7 @@ returns-2 c =
     let at-place = at-place-of .before .before in
     let at-translate = at-place .before .before in
     let at-bytes-of = at-translate .before in
-    store-done _ _ _ _ _ _ _ _ (at-bytes-of .bytes-of .ensures) (sym (at-translate .translate .ensures) ∙ at-place .place .given .1)
+    store-done _ _ _ _ _ _ _ _ _ (at-bytes-of .bytes-of .ensures) (sym (at-translate .translate .ensures) ∙ at-place .place .given .1)
     (sym (at-place-of .place-of .ensures) ∙ c .enum-told .given .1) refl
 
 returns-3 : tie.Need-returns-3
@@ -37,7 +37,7 @@ returns-3 c =
     let at-place = at-place-of .before .before in
     let at-translate = at-place .before .before in
     let at-bytes-of = at-translate .before in
-    store-done _ _ _ _ _ _ _ _ (at-bytes-of .bytes-of .ensures) (sym (at-translate .translate .ensures) ∙ at-place .place .given .1)
+    store-done _ _ _ _ _ _ _ _ _ (at-bytes-of .bytes-of .ensures) (sym (at-translate .translate .ensures) ∙ at-place .place .given .1)
     (sym (at-place-of .place-of .ensures) ∙ c .enum-told2 .given .1) refl
 
 returns-4 : tie.Need-returns-4
@@ -47,7 +47,7 @@ returns-4 c =
     let at-place = at-place-of .before .before in
     let at-translate = at-place .before .before in
     let at-bytes-of = at-translate .before in
-    store-done _ _ _ _ _ _ _ _ (at-bytes-of .bytes-of .ensures) (sym (at-translate .translate .ensures) ∙ at-place .place .given .1)
+    store-done _ _ _ _ _ _ _ _ _ (at-bytes-of .bytes-of .ensures) (sym (at-translate .translate .ensures) ∙ at-place .place .given .1)
     (sym (at-place-of .place-of .ensures) ∙ c .enum-told3 .given .1) refl
 
 returns-5 : tie.Need-returns-5
@@ -57,7 +57,7 @@ returns-5 c =
     let at-place = at-place-of .before .before in
     let at-translate = at-place .before .before in
     let at-bytes-of = at-translate .before in
-    store-done _ _ _ _ _ _ _ _ (at-bytes-of .bytes-of .ensures) (sym (at-translate .translate .ensures) ∙ at-place .place .given .1)
+    store-done _ _ _ _ _ _ _ _ _ (at-bytes-of .bytes-of .ensures) (sym (at-translate .translate .ensures) ∙ at-place .place .given .1)
     (sym (at-place-of .place-of .ensures) ∙ c .enum-told4 .given .1) refl
 
 returns-6 : tie.Need-returns-6
@@ -67,7 +67,7 @@ returns-6 c =
     let at-place = at-place-of .before .before in
     let at-translate = at-place .before .before in
     let at-bytes-of = at-translate .before in
-    store-timeout _ _ _ _ _ _ _ _ (at-bytes-of .bytes-of .ensures) (sym (at-translate .translate .ensures) ∙ at-place .place .given .1)
+    store-timeout _ _ _ _ _ _ _ _ _ (at-bytes-of .bytes-of .ensures) (sym (at-translate .translate .ensures) ∙ at-place .place .given .1)
     (sym (at-place-of .place-of .ensures) ∙ c .enum-told5 .given .1) refl
 
 pub store-spec : {M : Type 1} → statement M

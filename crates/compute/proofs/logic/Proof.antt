@@ -8,7 +8,7 @@ use Rattle.compute.proofs.logic.Tie as tie
 
 returns-16 : tie.Need-returns-16
 returns-16 c =
-    let b = c .before .before in
+    let b = c .before in
     computation-illegal _ (operands (b .args .x) (b .args .y) (b .args .word) (b .args .next)) (b .pre) (c .match .rest .0) (c .match .rest .1)
 
 pub logic-spec : {M : Type 1} → statement M
@@ -17,15 +17,22 @@ logic-spec =
     tie.close
     (tie.spec (λ c κs. search needs) (λ c κs. search needs) (λ c κs. search needs) (λ c κs. search needs) (λ c κs. search needs) (λ c κs. search needs)
     (λ c κs. search needs) (λ c κs. search needs) (λ c κs. search needs) (λ c κs. search needs) (λ c κs. search needs) (λ c κs. search needs)
-    (λ c κs. search needs) (λ c κs. search needs) (λ c κs. search needs) (λ c κs. search needs) (λ c. simp (c .before .match .keys1, c .and .ensures))
-    (λ c. simp (c .before .match .keys2, c .and2 .ensures, c .before .before .zero-extend-16 .ensures)) (λ c. simp (c .before .match .keys3, c .or .ensures))
-    (λ c. simp (c .before .match .keys4, c .or2 .ensures, c .before .before .zero-extend-16 .ensures)) (λ c. simp (c .before .match .keys5, c .xor .ensures))
-    (λ c. simp (c .before .match .keys6, c .xor2 .ensures, c .before .before .zero-extend-16 .ensures)) (λ c. simp (c .before .match .keys7, c .xnor .ensures))
-    (λ c. simp (c .before .match .keys8, c .xnor2 .ensures, c .before .before .zero-extend-16 .ensures))
-    (λ c. simp (c .before .match .keys9, c .shift-left .ensures))
-    (λ c. simp (c .before .match .keys10, c .shift-left2 .ensures, c .before .before .zero-extend-16 .ensures))
-    (λ c. simp (c .before .match .keys11, c .shift-right .ensures))
-    (λ c. simp (c .before .match .keys12, c .shift-right2 .ensures, c .before .before .zero-extend-16 .ensures))
-    (λ c. simp (c .before .match .keys13, c .shift-arithmetic .ensures))
-    (λ c. simp (c .before .match .keys14, c .shift-arithmetic2 .ensures, c .before .before .zero-extend-16 .ensures))
-    (λ c. simp (c .before .match .keys15, c .load-high .ensures)) returns-16)
+    (λ c κs. search needs) (λ c κs. search needs) (λ c κs. search needs) (λ c κs. search needs) (λ c κs. search needs) (λ c κs. search needs)
+    (λ c κs. search needs) (λ c κs. search needs) (λ c κs. search needs) (λ c κs. search needs) (λ c κs. search needs) (λ c κs. search needs)
+    (λ c κs. search needs) (λ c κs. search needs) (λ c κs. search needs) (λ c κs. search needs) (λ c κs. search needs) (λ c κs. search needs)
+    (λ c κs. search needs) (λ c κs. search needs) (λ c κs. search needs) (λ c κs. search needs) (λ c κs. search needs) (λ c κs. search needs)
+    (λ c κs. search needs) (λ c. simp (c .before .before .match .keys1, c .into-r .ensures, c .before .and .ensures))
+    (λ c. simp (c .before .before .before .match .keys2, c .into-y .ensures, c .before .and2 .ensures, c .before .before .zero-extend-16 .ensures))
+    (λ c. simp (c .before .before .match .keys3, c .into-r2 .ensures, c .before .or .ensures))
+    (λ c. simp (c .before .before .before .match .keys4, c .into-y2 .ensures, c .before .or2 .ensures, c .before .before .zero-extend-162 .ensures))
+    (λ c. simp (c .before .before .match .keys5, c .into-r3 .ensures, c .before .xor .ensures))
+    (λ c. simp (c .before .before .before .match .keys6, c .into-y3 .ensures, c .before .xor2 .ensures, c .before .before .zero-extend-163 .ensures))
+    (λ c. simp (c .before .before .match .keys7, c .into-r4 .ensures, c .before .xnor .ensures))
+    (λ c. simp (c .before .before .before .match .keys8, c .into-y4 .ensures, c .before .xnor2 .ensures, c .before .before .zero-extend-164 .ensures))
+    (λ c. simp (c .before .before .match .keys9, c .into-r5 .ensures, c .before .shift-left .ensures))
+    (λ c. simp (c .before .before .before .match .keys10, c .into-y5 .ensures, c .before .shift-left2 .ensures, c .before .before .zero-extend-165 .ensures))
+    (λ c. simp (c .before .before .match .keys11, c .into-r6 .ensures, c .before .shift-right .ensures))
+    (λ c. simp (c .before .before .before .match .keys12, c .into-y6 .ensures, c .before .shift-right2 .ensures, c .before .before .zero-extend-166 .ensures))
+    (λ c. simp (c .before .before .match .keys13, c .into-r7 .ensures, c .before .shift-arithmetic .ensures))
+    (λ c. simp (c .before .before .before .match .keys14, c .into-y7 .ensures, c .before .shift-arithmetic2 .ensures, c .before .before .zero-extend-167 .ensures))
+    (λ c. simp (c .before .before .match .keys15, c .into-y8 .ensures, c .before .load-high .ensures)) returns-16)

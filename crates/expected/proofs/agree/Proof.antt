@@ -10,6 +10,7 @@ unfolding agrees memoryAgrees
 returns c =
     rw (
       five,
+      c .before .before .before .before .told-agrees .ensures,
       c .before .before .before .record-agrees .ensures,
       c .before .before .same-bytes .ensures,
       c .before .same-bytes2 .ensures,
@@ -17,4 +18,4 @@ returns c =
     )
 
 pub agree-spec : {M : Type 1} → statement M
-agree-spec = tie.close (tie.spec (λ c κs. search needs) (λ c κs. search needs) (λ c κs. search needs) (λ c κs. search needs) returns)
+agree-spec = tie.close (tie.spec (λ c κs. search needs) (λ c κs. search needs) (λ c κs. search needs) (λ c κs. search needs) (λ c κs. search needs) returns)

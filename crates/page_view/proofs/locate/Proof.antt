@@ -53,7 +53,7 @@ returns-5 c =
     let at-if1 = at-is-fit .before in
     let at-ram-accepted = at-if1 .before in
     c .refused5 .ensures ∙ refused-8 _ _ _ (sym (at-ram-accepted .ram-accepted .ensures) ∙ not-false _ (at-if1 .if1 .left))
-    (sym (at-is-fit .is-fit .ensures) ∙ not-false _ (at-if2 .if2 .left)) (not-in-ram _ _ _ _
+    (sym (at-is-fit .is-fit .ensures) ∙ not-false _ (at-if2 .if2 .left)) (not-in-ram _ _ _ _ _
     (sym (at-translate .translate .ensures) ∙ at-found .found .given .1) (c .before .if4 .taken))
 
 returns-6 : tie.Need-returns-6
@@ -68,8 +68,8 @@ returns-6 c =
     let at-ram-accepted = at-if1 .before in
     let args = at-ram-accepted .before .before .args in
     accepted (now (args .ram)) (args .p) (args .page) (sym (at-ram-accepted .ram-accepted .ensures) ∙ not-false _ (at-if1 .if1 .left))
-    (sym (at-is-fit .is-fit .ensures) ∙ not-false _ (at-if2 .if2 .left)) _ (sym (at-translate .translate .ensures) ∙ at-found .found .given .1)
-    (in-ram _ _ _ _ (at-if3 .if3 .left) (sym (at-translate .translate .ensures) ∙ at-found .found .given .1) (c .if4 .left))
+    (sym (at-is-fit .is-fit .ensures) ∙ not-false _ (at-if2 .if2 .left)) _ _ (sym (at-translate .translate .ensures) ∙ at-found .found .given .1)
+    (in-ram _ _ _ _ _ (at-if3 .if3 .left) (sym (at-translate .translate .ensures) ∙ at-found .found .given .1) (c .if4 .left))
 
 pub locate-spec : {M : Type 1} → statement M
 locate-spec =

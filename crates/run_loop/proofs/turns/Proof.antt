@@ -12,7 +12,7 @@ use Rattle.machine.specs.Machine.{machine}
 use Rattle.step.proofs.Looks.{joined}
 use Rattle.run_loop.proofs.Loop.{plain-goes-on, none-goes-on, run-end, run-start, one-less}
 use Rattle.run_loop.proofs.Turn.{jumps, enters, leaves, zero-written, taken, jump-found, enter-found, followed-serves}
-use Rattle.run_loop.proofs.Turn.{Going, again, stops}
+use Rattle.run_loop.proofs.Turn.{Going, still-none, again, stops}
 use Rattle.instructions.specs.Code.{actionOf}
 use Rattle.instructions.proofs.Coding.{is-system}
 use Rattle.actions.specs.Actions.{processorAfter}
@@ -21,16 +21,16 @@ use Rattle.run_loop.proofs.turns.Statement.{statement}
 use Rattle.run_loop.proofs.turns.Tie as tie
 
 abbrev Inv-loop : tie.InvT-loop
-Inv-loop ram₀ rom belt₀ wanted lines kind state₀ ticking₀ first last₀ steps₀ eid₀ ram belt state ticking last steps eid =
-    Going (request kind wanted lines) (machine state₀ ticking₀ ram₀ rom belt₀) (machine (indexed first steps state) ticking ram rom belt) last steps eid
+Inv-loop ram₀ rom belt₀ wanted lines kind state₀ ticking₀ first last₀ steps₀ eid₀ slot₀ ram belt state ticking last steps eid slot =
+    Going (request kind wanted lines) (machine state₀ ticking₀ ram₀ rom belt₀) (machine (indexed first steps state) ticking ram rom belt) last steps eid slot
 
 abbrev μ-loop : tie.MeasureT-loop
-μ-loop ram₀ rom belt₀ wanted lines kind state₀ ticking₀ first last₀ steps₀ eid₀ ram belt state ticking last steps eid =
+μ-loop ram₀ rom belt₀ wanted lines kind state₀ ticking₀ first last₀ steps₀ eid₀ slot₀ ram belt state ticking last steps eid slot =
     wanted - steps
 
 loop-holds : tie.Need-loop-holds Inv-loop μ-loop
 unfolding replacementAfter
-loop-holds c = record { ram = refl; belt = refl; none = refl; found = c .first .ensures .1; rest = run-start _ 0 _ }
+loop-holds c = record { ram = refl; belt = refl; none = refl; untold = λ more. refl; found = c .first .ensures .1; rest = run-start _ 0 _ }
 
 follow-requires : tie.Need-follow-requires Inv-loop μ-loop
 follow-requires c κs =
@@ -50,13 +50,13 @@ add-steps c =
 
 loop-less : tie.Need-loop-less Inv-loop μ-loop
 loop-less c =
-    let far-loop-test = c .before .before .before .before .before .before .before .before in
+    let far-loop-test = c .before .before .before .before .before .before .before .before .before in
     let at-loop-test = far-loop-test .before .before .before .before .before .before .before .before .before in
     one-less _ _ (at-loop-test .loop-test .taken)
 
 loop-again : tie.Need-loop-again Inv-loop μ-loop
 loop-again c =
-    let at-action = c .before .before .before in
+    let at-action = c .before .before .before .before in
     let at-look-at = at-action .before .before in
     let at-lines = at-look-at .before in
     let at-follow = at-lines .before .before .before .before .before .before .before in
@@ -65,17 +65,17 @@ loop-again c =
     let at-loop = at-loop-test .before in
     again (at-loop .loop .inv) (at-loop-test .loop-test .taken) (at-lines .lines .ensures) (at-look-at .look-at .ensures)
     (ap actionOf (at-action .action .given .1)) (joined (jumps _ _ _ _ _ (c .jump .ensures) ∙ ap indexMoved (zero-written _ _ _ _ (c .before .if1 .taken)))
-    (at-tick .tick .ensures) refl) (none-goes-on _) refl refl (jump-found _ _ _ (at-follow .follow .ensures .1) _ _ (c .jump .ensures))
+    (at-tick .tick .ensures) refl) (none-goes-on _) refl refl (jump-found _ _ _ (at-follow .follow .ensures .1) _ _ (c .jump .ensures)) (c .before .before .last-slot .ensures)
 
 loop-less-2 : tie.Need-loop-less-2 Inv-loop μ-loop
 loop-less-2 c =
-    let far-loop-test = c .before .before .before .before .before .before .before .before in
+    let far-loop-test = c .before .before .before .before .before .before .before .before .before in
     let at-loop-test = far-loop-test .before .before .before .before .before .before .before .before .before in
     one-less _ _ (at-loop-test .loop-test .taken)
 
 loop-again-2 : tie.Need-loop-again-2 Inv-loop μ-loop
 loop-again-2 c =
-    let at-action = c .before .before .before in
+    let at-action = c .before .before .before .before in
     let at-look-at = at-action .before .before in
     let at-lines = at-look-at .before in
     let at-follow = at-lines .before .before .before .before .before .before .before in
@@ -84,11 +84,11 @@ loop-again-2 c =
     let at-loop = at-loop-test .before in
     again (at-loop .loop .inv) (at-loop-test .loop-test .taken) (at-lines .lines .ensures) (at-look-at .look-at .ensures)
     (ap actionOf (at-action .action .given .1)) (joined (taken _ _ _ _ _ _ _ _ (c .before .if1 .left) (c .write .ensures .0) (c .write .ensures .1))
-    (at-tick .tick .ensures) refl) (none-goes-on _) refl refl (at-follow .follow .ensures .1)
+    (at-tick .tick .ensures) refl) (none-goes-on _) refl refl (at-follow .follow .ensures .1) (c .before .before .last-slot .ensures)
 
 loop-less-3 : tie.Need-loop-less-3 Inv-loop μ-loop
 loop-less-3 c =
-    let far-loop-test = c .before .before .before .before .before .before .before .before .before .before .before .before .before in
+    let far-loop-test = c .before .before .before .before .before .before .before .before .before .before .before .before .before .before in
     let at-loop-test = far-loop-test .before .before .before .before .before .before .before .before .before .before .before .before .before in
     one-less _ _ (at-loop-test .loop-test .taken)
 
@@ -96,7 +96,8 @@ loop-again-3 : tie.Need-loop-again-3 Inv-loop μ-loop
 loop-again-3 c =
     let at-tick2 = c .before .before in
     let at-store = at-tick2 .before .before .before .before .before .before in
-    let at-action2 = at-store .before .before .before .before in
+    let at-last-slot2 = at-store .before .before .before in
+    let at-action2 = at-last-slot2 .before .before in
     let at-look-at = at-action2 .before .before in
     let at-lines = at-look-at .before in
     let at-follow = at-lines .before .before .before .before .before .before .before in
@@ -105,7 +106,7 @@ loop-again-3 c =
     again (at-loop .loop .inv) (at-loop-test .loop-test .taken) (at-lines .lines .ensures) (at-look-at .look-at .ensures)
     (ap actionOf (at-action2 .action2 .given .1)) (joined (jumps _ _ _ _ _ (c .jump2 .ensures ∙ ap (jumped _) (c .before .add .ensures)))
     (at-tick2 .tick2 .ensures ∙ ap ticked (at-store .store .ensures .1 .0)) (at-store .store .ensures .1 .1)) (none-goes-on _) (at-store .store .kept .1 .0)
-    (at-store .store .kept .1 .1 .1 .0) (jump-found _ _ _ (at-follow .follow .ensures .1) _ _ (c .jump2 .ensures))
+    (at-store .store .kept .1 .1 .1 .0) (jump-found _ _ _ (at-follow .follow .ensures .1) _ _ (c .jump2 .ensures)) (at-last-slot2 .last-slot2 .ensures)
 
 loop-less-4 : tie.Need-loop-less-4 Inv-loop μ-loop
 loop-less-4 c =
@@ -127,6 +128,7 @@ loop-again-4 c =
     (at-lines .lines .ensures) (at-look-at .look-at .ensures) told
     (joined (leaves _ _ _ _ (System i) (at-replacement-after .replacement-after .ensures) (at-done .done .ensures ∙ ap (processorAfter _) told))
     (at-tick .tick .ensures) refl) (none-goes-on _) refl refl (c .first2 .ensures .1)
+    (still-none (at-loop .loop .inv) (at-loop-test .loop-test .taken))
 
 loop-less-5 : tie.Need-loop-less-5 Inv-loop μ-loop
 loop-less-5 c =
@@ -146,6 +148,7 @@ loop-again-5 c =
     again (at-loop .loop .inv) (at-loop-test .loop-test .taken) (at-lines .lines .ensures) (at-look-at .look-at .ensures)
     (ap actionOf (at-action3 .action3 .given .1)) (joined (enters _ _ _ _ _ _ (c .before .enter .ensures)) (at-tick .tick .ensures) refl)
     (plain-goes-on _ _ (c .if2 .left)) refl refl (enter-found _ _ _ (at-follow .follow .ensures .1) _ _ _ (c .before .enter .ensures))
+    (still-none (at-loop .loop .inv) (at-loop-test .loop-test .taken))
 
 same-length : tie.Need-same-length Inv-loop μ-loop
 same-length c = c .before .loop .inv .ram
@@ -154,7 +157,7 @@ same-length-2 : tie.Need-same-length-2 Inv-loop μ-loop
 same-length-2 c = c .before .loop .inv .belt
 
 returns : tie.Need-returns Inv-loop μ-loop
-returns c = sym (c .before .loop .inv .rest ∙ run-end _ _ _ _ (c .before .loop .inv .none) (c .loop-test .left))
+returns c = sym (c .before .loop .inv .rest ∙ run-end _ _ _ _ _ (c .before .loop .inv .none) (c .loop-test .left))
 
 same-length-3 : tie.Need-same-length-3 Inv-loop μ-loop
 same-length-3 c =
@@ -184,7 +187,7 @@ pub turns-spec : {M : Type 1} → statement M
 turns-spec =
     tie.close
     (tie.spec Inv-loop μ-loop (λ c κs. search needs) loop-holds (λ c κs. search needs) follow-requires (λ c κs. search needs) look-at-requires add-steps
-    (λ c. search needs) (λ c. search needs) (λ c κs. search needs) loop-less loop-again (λ c κs. search needs) (λ c. search needs) (λ c. search needs)
-    loop-less-2 loop-again-2 (λ c. search needs) (λ c κs. search needs) (λ c κs. search needs) (λ c κs. search needs) (λ c κs. search needs) loop-less-3
+    (λ c. search needs) (λ c κs. search needs) (λ c. search needs) (λ c κs. search needs) loop-less loop-again (λ c κs. search needs) (λ c. search needs) (λ c. search needs)
+    loop-less-2 loop-again-2 (λ c. search needs) (λ c κs. search needs) (λ c κs. search needs) (λ c κs. search needs) (λ c κs. search needs) (λ c κs. search needs) loop-less-3
     loop-again-3 (λ c κs. search needs) (λ c κs. search needs) (λ c κs. search needs) loop-less-4 loop-again-4 (λ c. search needs) (λ c κs. search needs)
     loop-less-5 loop-again-5 same-length same-length-2 returns same-length-3 same-length-4 returns-2)

@@ -2,7 +2,7 @@
 use mathlib.Core.Path.{ap, sym, _∙_}
 use borrow.Author.Needs.{needs}
 use Rattle.transfer.specs.Transfer.{landed}
-use Rattle.instructions.specs.Action.{Write}
+use Rattle.transfer.proofs.Loads.{valued}
 use Rattle.transfer.proofs.land.Statement.{statement}
 use Rattle.transfer.proofs.land.Tie as tie
 
@@ -10,7 +10,7 @@ returns : tie.Need-returns
 returns c =
     let at-read = c .before .before in
     let args = at-read .before .before .args in
-    ap (λ v. Write (args .number) v (args .next)) (c .extend .ensures) ∙ sym
+    valued _ _ _ (c .extend .ensures) ∙ sym
     (ap (landed _ (args .number) (args .address) (args .next)) (at-read .read .given .1))
 
 returns-2 : tie.Need-returns-2

@@ -9,6 +9,7 @@ pub struct Answer {
     refusal: u32,
     steps: u32,
     eid: u32,
+    slot: u32,
 }
 
 /// # Safety
@@ -37,5 +38,6 @@ pub unsafe extern "C" fn reference_run(
         refusal: answer.refusal,
         steps: answer.steps,
         eid: answer.eid,
+        slot: answer.slot,
     }
 }

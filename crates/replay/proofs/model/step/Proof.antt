@@ -25,10 +25,11 @@ returns c =
     let at-step = at-count-step .before .before .before .before .before .before .before .before .before in
     let at-opcode-at = at-step .before .before .before in
     let state = ap (λ (s : Stepped). s .machine) (at-step .step .ensures) in
-    let eid = ap (λ (s : Stepped). s .event .eid) (at-step .step .ensures) in (
+    let eid = ap (λ (s : Stepped). s .event .eid) (at-step .step .ensures) in
+    let slot = ap (λ (s : Stepped). s .event .slot) (at-step .step .ensures) in (
       state,
       (
-        rw (c .judge .ensures, at-agree .agree .ensures, c .before .make-step .ensures, step-compared _ _ state eid _ _),
+        rw (c .judge .ensures, at-agree .agree .ensures, c .before .make-step .ensures, step-compared _ _ state eid _ _ slot),
         at-count-step .count-step .ensures ∙ step-counted _ _ state eid _ (at-opcode-at .opcode-at .ensures),
       ),
     )
