@@ -34,11 +34,12 @@
  * Slots. A slot says which TLB entry served an access: the entry's number, 0 to
  * 31, or ECO32_DIRECT_MAPPED (32) for an address from C0000000 up, which needs
  * none. A run answers the slot of its last step's load or store. Where that step
- * completed none, or no step was made, it is ECO32_NO_SLOT (33).
+ * completed none, or no step was made, it is ECO32_NO_SLOT (33). A page view
+ * answers the slot of its lookup.
  *
  * Words in records, ROM and RAM images and belt registers are big-endian.
  *
- * eco32_text.h has words for the numbers that the calls answer.
+ * eco32_text.h has words for refusal numbers and EIDs.
  */
 #ifndef ECO32_H
 #define ECO32_H

@@ -1,5 +1,5 @@
 /*
- * eco32_text.h - words for the numbers that the calls of eco32.h answer.
+ * eco32_text.h - words for the refusal numbers and EIDs of eco32.h.
  *
  * These functions are inline, since the library holds proved code alone. They
  * are not proved; they are tested. Any number may be asked for. The text that

@@ -445,8 +445,8 @@ static uint32_t lowest_bit(uint32_t bits)
     return n;
 }
 
-/* A step without its tick, its move of the replacement index, and the entry of TBWR. It begins a line of the cache: at other
- * places, which what is linked before it decides, it may be slower by a sixth. */
+/* A step without its tick, its move of the replacement index, and the entry of TBWR. Aligned to a line of the
+ * cache: elsewhere it may be up to a sixth slower, depending on what is linked before it. */
 __attribute__((aligned(64)))
 static uint32_t step(struct plain_machine *m, const struct plain_memory *memory, uint16_t lines)
 {

@@ -1,3 +1,4 @@
 -- The laws of `access`.
 pub mod ReadFaults
 pub mod WriteFaults
+pub mod Forgotten

@@ -27,7 +27,7 @@ readThrough width timer m t = resolved (λ address slot. answered slot (loadOf w
 unfoldable pub readFrom : ℕ → Surroundings → ℕ → Read
 readFrom width s address = readThrough width (s .timer) (s .memory) (translated (s .psw) (s .highs) (s .lows) width false address)
 
--- the numbers of an answer: the exception that it names, or `noException`; what was read, 0 where it faults; and the slot, then `noSlot`
+-- the numbers of an answer: the exception that it names, or `noException`; what was read, or 0 where it faults; and the slot, or `noSlot`
 abbrev pub readEid : Read → ℕ
 readEid (Value v slot) = noException
 readEid (Fault eid) = eid

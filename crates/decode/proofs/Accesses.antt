@@ -6,7 +6,6 @@ use mathlib.Core.Bool.{Bool, true, false}
 use mathlib.Core.List.{List, [], _∷_}
 use Prim.Native.Nat.{ℕ, zero, suc, _-_, _≤_, _<_}
 use native.Mathlib.Omega.{arith}
-use lib.Dec.{eqb}
 use lib.ListN.{length, getD}
 use Rattle.words.specs.Lists.{Every}
 use Rattle.words.proofs.Cases.{chosen, below-or-not}
@@ -24,7 +23,7 @@ use Rattle.translation.proofs.Resolved.{walk}
 use Rattle.instructions.specs.Operands.{Surroundings, Operands, Simple, simple, illegal, opcodeOf, fieldY}
 use Rattle.instructions.specs.Action.{Action, Write, Store, System, Exception, SystemInstruction, Rfx, Mvfs, Mvts, Tbs, Tbwr, Tbri, Tbwi}
 use Rattle.compute.specs.Compute.{computations}
-use Rattle.compute.proofs.Results.{Computed, Computes, every-computes}
+use Rattle.compute.proofs.Results.{Computed, every-computes}
 use Rattle.control.specs.Control.{controls}
 use Rattle.control.specs.Branches.{branch}
 use Rattle.access.specs.declared.Read.{Read}
@@ -38,7 +37,7 @@ use Rattle.decode.specs.Table.{executed}
 use Rattle.decode.proofs.Rows.{Always}
 use Rattle.decode.proofs.Dispatch.{by-computation, by-control, by-trap, by-transfer, by-system, by-none}
 
--- the translation grants the instruction's data address, by this slot
+-- the translation grants the instruction's data address, by this slot: `writes` says whether it is asked for a store
 pub record Accessed (s : Surroundings) (o : Operands) (slot : ℕ) : Type 0 where
   pub width : ℕ
   pub writes : Bool
@@ -51,8 +50,8 @@ AccessFault eid = (eid ≡ 16) ⊎ ((21 ≤ eid) × (eid ≤ 25))
 
 -- what a load or a store comes to
 abbrev pub Accesses : Surroundings → Operands → Action → Type 0
-Accesses s o (Write n v next slot) = Accessed s o slot
-Accesses s o (Store width physical v slot) = Accessed s o slot
+Accesses s o (Write n v next slot) = (g : Accessed s o slot) × (g .writes ≡ false)
+Accesses s o (Store width physical v slot) = (g : Accessed s o slot) × (g .writes ≡ true) × (g .width ≡ width) × (g .physical ≡ physical)
 Accesses s o (System i) = ⊥
 Accesses s o (Exception eid address) = AccessFault eid
 
@@ -67,10 +66,10 @@ Quiet (Exception eid address) = Unit {0}
 
 module _ (s : Surroundings) (o : Operands) where
   abbrev Brings : Read → Type 0
-  Brings (Value v slot) = Accessed s o slot
+  Brings (Value v slot) = (g : Accessed s o slot) × (g .writes ≡ false)
   Brings (Fault eid) = AccessFault eid
 
-  brings : (slot : ℕ) (l : Loaded) → Accessed s o slot → Brings (answered slot l)
+  brings : (slot : ℕ) (l : Loaded) → ((g : Accessed s o slot) × (g .writes ≡ false)) → Brings (answered slot l)
   brings slot (loaded.Value v) h = h
   brings slot loaded.Timeout h = inl refl
 
@@ -78,7 +77,8 @@ module _ (s : Surroundings) (o : Operands) where
   lands extend (Value v slot) h = h
   lands extend (Fault eid) h = h
 
-  settles : (width physical value slot : ℕ) (r : Stored) → Accessed s o slot → Accesses s o (settled width physical value slot (addressOf o) r)
+  settles : (width physical value slot : ℕ) (r : Stored) → Accesses s o (Store width physical value slot)
+      → Accesses s o (settled width physical value slot (addressOf o) r)
   settles width physical value slot stored.Done h = h
   settles width physical value slot stored.Timeout h = inl refl
 
@@ -87,14 +87,15 @@ unfolding load readFrom
 loads width extend s o =
     lands s o extend (readFrom width s (addressOf o))
     (walk _ Fault (Brings s o) (translated (s .psw) (s .highs) (s .lows) width false (addressOf o))
-    (λ a slot e. brings s o slot (loadOf width (s .timer) (s .memory) a) (record { width = width; writes = false; physical = a; granted = e }))
+    (λ a slot e. brings s o slot (loadOf width (s .timer) (s .memory) a) (record { width = width; writes = false; physical = a; granted = e }, refl))
     (λ eid low high. inr (low, high)))
 
 stores : (width : ℕ) → Always Accesses (store width)
 unfolding storeTo
 stores width s o =
     walk _ _ (Accesses s o) (translated (s .psw) (s .highs) (s .lows) width true (addressOf o))
-    (λ a slot e. settles s o width a (o .y) slot (storeAnswer width (s .memory) a) (record { width = width; writes = true; physical = a; granted = e }))
+    (λ a slot e. settles s o width a (o .y) slot (storeAnswer width (s .memory) a)
+    (record { width = width; writes = true; physical = a; granted = e }, refl, refl, refl))
     (λ eid low high. inr (low, high))
 
 transfers-access : Every (Always Accesses) transfers

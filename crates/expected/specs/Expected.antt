@@ -1,4 +1,4 @@
--- The expected machine, and whether a machine and an EID agree with it.
+-- The expected machine, and whether a machine, an EID and a slot agree with it.
 use mathlib.Core.Bool.{Bool, false, cond}
 use mathlib.Core.List.{List}
 use Prim.Native.Nat.{ℕ, _/_, _%_}

@@ -96,7 +96,8 @@ module _ (start : Machine) where
       let b′ = step-both (q .lines) m n b user apart apart′ in
       let same = event-both (q .lines) m n b user apart apart′ in
       let rest = steps-agree q k m′ n′ b′ (step-apart m (q .lines) apart) (step-apart n (q .lines) apart′) in
-      (same, b′, subst (λ (e : Event). Agree m′ n′ (left (ends (q .kind) (x .eid)) m′) (left (ends (q .kind) (e .eid)) n′)) same (go (ends (q .kind) (x .eid)) rest))
+      let last = ends (q .kind) (x .eid) in
+      (same, b′, subst (λ (e : Event). Agree m′ n′ (left last m′) (left (ends (q .kind) (e .eid)) n′)) same (go last rest))
     where
       m′ : Machine
       m′ = stepOf m (q .lines) .machine

@@ -1,5 +1,5 @@
 -- The look by its parts, as the code meets them.
-use mathlib.Core.Path.{_≡_, ap}
+use mathlib.Core.Path.{_≡_, refl, ap}
 use mathlib.Core.List.{List}
 use Prim.Native.Nat.{ℕ, _≤_, _<_}
 use borrow.Author.Tests.{lt-ltb, le-ltb}
@@ -9,6 +9,8 @@ use Rattle.decode.specs.Table.{executed}
 use Rattle.access.specs.Reads.{readFrom}
 use Rattle.instructions.specs.Action.{Action, Exception}
 use Rattle.access.specs.declared.Read.{Read}
+use Rattle.access.specs.declared.Read.the-variants.{Value, Fault}
+use Rattle.access.proofs.Forgotten.{withoutSlot}
 use Rattle.look.specs.Look.{decoded, lookFrom}
 
 module _ (s : Surroundings) (registers : List ℕ) (pc lines : ℕ) where
@@ -27,3 +29,8 @@ module _ (s : Surroundings) (registers : List ℕ) (pc lines : ℕ) where
 pub executed-next : (s : Surroundings) (x y word next next′ : ℕ) → next ≡ next′
     → executed s (operands x y word next) ≡ executed s (operands x y word next′)
 executed-next s x y word next next′ e = ap (λ (n : ℕ). executed s (operands x y word n)) e
+
+-- of a fetch the slot plays no part (document 02, job 2)
+pub fetch-forgotten : (s : Surroundings) (registers : List ℕ) (pc : ℕ) (r : Read) → decoded s registers pc (withoutSlot r) ≡ decoded s registers pc r
+fetch-forgotten s registers pc (Value word slot) = refl
+fetch-forgotten s registers pc (Fault eid) = refl

@@ -2,25 +2,26 @@
 use mathlib.Core.Path.{_≡_, refl, ap, ap₂, sym, subst, _∙_}
 use mathlib.Core.Bool.{Bool, true, false, true≢false}
 use mathlib.Core.List.{List, []}
-use Prim.Native.Nat.{ℕ, _+_, _-_, _%_, _≤_, _<_}
+use Prim.Native.Nat.{ℕ, _+_, _*_, _-_, _%_, _≤_, _<_}
 use native.Mathlib.Omega.{arith}
 use native.Mathlib.Nat.{add-zero, add-comm, add-sub-cancel-left}
 use lib.Dec.{leb, ltb, eqb}
 use lib.ListN.{length, take, drop, length-drop}
 use lib.Seq.{length-take-le}
 use borrow.Author.Tests.{eq-eqb, ne-eqb, ltb-true, eqb-true}
-use Rattle.words.specs.Logic.{both}
+use Rattle.words.specs.Logic.{both, Exactly}
 use Rattle.processor.specs.declared.Processor.{Processor}
 use Rattle.translation.specs.declared.Translation.{Translation}
 use Rattle.translation.specs.declared.Translation.the-variants.{Physical}
 use Rattle.translation.proofs.Resolved.{walk}
+use Rattle.translation.proofs.Slots.{slot-below}
 use Rattle.refusals.specs.Refusal.{ramAccepted, pagesUpTo}
 use Rattle.refusals.proofs.FirstFailed.{all-pass}
 use Rattle.words.specs.Lists.{Every}
 use Rattle.words.proofs.Conjunction.{both-true}
 use Rattle.tlb.specs.Lookup.{noSlot}
 use Rattle.translation.specs.Translation.{physicalOf, translationSlot}
-use Rattle.page_view.specs.View.{lookedUp, inRam, hasFrame, viewTests, viewRefusal, viewed, viewOf}
+use Rattle.page_view.specs.View.{kernelMode, lookedUp, inRam, hasFrame, viewTests, viewRefusal, viewed, viewOf}
 use Rattle.page_view.specs.Part.{viewPart, partPtr}
 use Rattle.page_view.proofs.Answers.{the-refusal, the-offset, the-size}
 use Rattle.page_view.proofs.Lookup.{frame-start}
@@ -135,3 +136,9 @@ module _ (ram : List ℕ) (p : Processor) (page : ℕ) where
       sym no-part,
       ap {B = ℕ × ℕ} (λ (k : ℕ). (start .0, k)) (sym (ap (λ (k : ℕ). start .1 + k) no-offset ∙ add-zero (start .1))),
     )
+
+  -- ---- the slot is 33 exactly where the view is refused
+
+  pub slot-exactly : Exactly (viewOf ram p page .slot ≡ noSlot) (viewRefusal ram p page ≡ 0 → ⊥)
+  unfolding lookedUp
+  slot-exactly = (λ e ok. omega (arith, e, slot-below kernelMode (p .tlbhigh) (p .tlblow) 1 false (page * 4096) _ _ (first-byte ok)), no-slot)

@@ -41,7 +41,18 @@ module _ (x : Expected) (wanted : ℕ) (m : Machine) (eid slot : ℕ) where
       → agrees x wanted m eid slot ≡ true
   unfolding agrees toldAgrees recordAgrees memoryAgrees
   says-agrees e k f g h i j =
-      simp (eq-eqb eid (wanted % 256) e, eq-eqb slot (wanted / 256) k, f, g, h, i, j, same-self (x .bytes), same-self (x .memory .ram), same-self (x .memory .rom)) (same-self (x .memory .belt))
+      simp (
+        eq-eqb eid (wanted % 256) e,
+        eq-eqb slot (wanted / 256) k,
+        f,
+        g,
+        h,
+        i,
+        j,
+        same-self (x .bytes),
+        same-self (x .memory .ram),
+        same-self (x .memory .rom),
+      ) (same-self (x .memory .belt))
 
 -- ---- one command
 

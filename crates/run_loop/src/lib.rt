@@ -10,7 +10,7 @@ ghost use Rattle.machine.specs.Machine.{before, after};
 ghost use Rattle.step.specs.Step.{stepped, stepOf};
 ghost use Rattle.run_loop.specs.Run.{indexed, request, outcome, begun, runFrom};
 
-// The processor and the timer after a run; the refusal or 0, the steps made, the exception that ended it, or 32, and the slot of the last step.
+// The processor and the timer after a run; the refusal or 0, the steps made, the exception that ended it, or 32, and the slot of the last step, or 33.
 pub struct Ran {
     pub processor: Processor,
     pub timer: Timer,

@@ -83,7 +83,8 @@ module _ (q : Request) where
   run-slot m =
       subst (LastSlot m) (sym (run-is q m))
       (chosen (LastSlot m) (eqb (runRefusal m (q .wanted)) 0)
-      (⊎-elim (λ t. inl t) (λ t. let (k, steps, same) = t in inr (k, omega (arith, steps), same)) (slot-of-the-last (q .wanted) (begun m 0))) (inl (refl, refl)))
+      (⊎-elim (λ t. inl t) (λ t. let (k, steps, same) = t in inr (k, omega (arith, steps), same)) (slot-of-the-last (q .wanted) (begun m 0)))
+      (inl (refl, refl)))
 
 -- ---- a run to exception
 

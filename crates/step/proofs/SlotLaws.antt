@@ -8,13 +8,15 @@ use Rattle.words.specs.Logic.{Exactly}
 use Rattle.words.proofs.Cases.{below-or-not}
 use Rattle.timer.specs.Timer.{linesWith}
 use Rattle.tlb.specs.Lookup.{noSlot, directMapped}
-use Rattle.translation.proofs.Slots.{slot-below}
+use Rattle.translation.proofs.Slots.{Served, slot-serves, slot-direct, slot-below}
 use Rattle.look.specs.Interrupt.{channel}
 use Rattle.instructions.specs.Operands.{Surroundings, Operands, opcodeOf}
 use Rattle.instructions.specs.Action.{Action, Write, Store, System, Exception}
-use Rattle.access.specs.Reads.{readFrom, readEid, readValue}
+use Rattle.access.specs.Reads.{readFrom, readValue}
+use Rattle.access.proofs.Forgotten.{reslotted}
 use Rattle.access.specs.declared.Read.{Read}
 use Rattle.access.specs.declared.Read.the-variants.{Value, Fault}
+use Rattle.transfer.specs.Transfer.{addressOf}
 use Rattle.decode.specs.Table.{executed}
 use Rattle.decode.proofs.Accesses.{Accessed, AccessFault, Accesses, Quiet, executed-accesses, executed-quiet}
 use Rattle.look.specs.Look.{operandsOf, decoded}
@@ -34,8 +36,8 @@ abbrev pub Tells : Surroundings → Operands → ℕ → ℕ → Type 0
 Tells s o eid slot = ((eid ≡ 32) × Accessed s o slot) ⊎ (AccessFault eid × (slot ≡ noSlot))
 
 access-tells : (s : Surroundings) (o : Operands) (a : Action) → Accesses s o a → Tells s o (eidOf a) (slotOf a)
-access-tells s o (Write n v next slot) h = inl (refl, h)
-access-tells s o (Store width physical v slot) h = inl (refl, h)
+access-tells s o (Write n v next slot) h = inl (refl, h .0)
+access-tells s o (Store width physical v slot) h = inl (refl, h .0)
 access-tells s o (System i) h = absurd h
 access-tells s o (Exception eid address) h = inr (h, refl)
 
@@ -64,6 +66,9 @@ module _ (m : Machine) (lines : ℕ) where
     pub from : 48 ≤ opcodeOf word
     pub upto : opcodeOf word < 56
 
+  fault-below : AccessFault eid → eid < 32
+  fault-below f = ⊎-elim (λ e. omega arith) (λ e. omega (arith, e .1)) f
+
   -- the look at a fetched word
   looks : (word by : ℕ) → 32 ≤ ready → fetched ≡ Value word by → look m lines ≡ executed (surroundingsOf m) (operands word)
   looks word by h e = nothing-before-the-fetch m lines h ∙ ap (decoded (surroundingsOf m) (m .processor .registers) (m .processor .pc)) e
@@ -74,6 +79,19 @@ module _ (m : Machine) (lines : ℕ) where
       rw (step-eid m lines _ e, step-slot m lines _ e)
       (access-tells (surroundingsOf m) (operands (d .word)) (executed (surroundingsOf m) (operands (d .word)))
       (executed-accesses (surroundingsOf m) (operands (d .word)) (d .from) (d .upto)))
+
+  -- one that completes: a slot below 32 is the lowest entry with its page, whose low word gave the frame and the rights, and 32 is told exactly
+  -- for an address from C0000000 up
+  module _ (d : DataAccess) (completes : eid ≡ 32) where
+    granted : Accessed (surroundingsOf m) (operands (d .word)) slot
+    granted = ⊎-elim (λ t. t .1) (λ t. absurd (omega (arith, completes, fault-below (t .0)))) (access-told d)
+
+    pub told-serves : slot < 32 → (g : Accessed (surroundingsOf m) (operands (d .word)) slot)
+        × Served (m .processor .tlbhigh) (m .processor .tlblow) (g .writes) (addressOf (operands (d .word))) (g .physical) slot
+    told-serves h = let g = granted in (g, slot-serves _ _ _ (g .width) (g .writes) _ (g .physical) slot (g .granted) h)
+
+    pub told-direct : Exactly (slot ≡ directMapped) (0xC0000000 ≤ addressOf (operands (d .word)))
+    told-direct = let g = granted in slot-direct _ _ _ (g .width) (g .writes) _ (g .physical) slot (g .granted)
 
   -- ---- no data access, no slot
 
@@ -112,9 +130,6 @@ module _ (m : Machine) (lines : ℕ) where
   granted-below : (o : Operands) → Accessed (surroundingsOf m) o slot → slot ≤ directMapped
   granted-below o g = slot-below _ _ _ (g .width) (g .writes) _ (g .physical) slot (g .granted)
 
-  fault-below : AccessFault eid → eid < 32
-  fault-below f = ⊎-elim (λ e. omega arith) (λ e. omega (arith, e .1)) f
-
   pub no-slot : Exactly (slot ≡ noSlot) ((DataAccess → ⊥) ⊎ AccessFault eid)
   no-slot = (
     λ e. ⊎-elim
@@ -132,14 +147,7 @@ module _ (m : Machine) (lines : ℕ) where
 
 -- ---- a slot is only told
 
--- an action by another slot
-abbrev pub reslotted : ℕ → Action → Action
-reslotted k (Write n v next slot) = Write n v next k
-reslotted k (Store width physical v slot) = Store width physical v k
-reslotted k (System i) = System i
-reslotted k (Exception eid address) = Exception eid address
-
--- the machine after it and the exception are the same
+-- by another slot in its action, the machine after a step and the exception are the same
 pub only-told : (k : ℕ) (m : Machine) (a : Action) → (done m (reslotted k a) ≡ done m a) × (eidOf (reslotted k a) ≡ eidOf a)
 only-told k m (Write n v next slot) = (refl, refl)
 only-told k m (Store width physical v slot) = (refl, refl)

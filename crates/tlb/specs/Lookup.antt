@@ -18,7 +18,7 @@ noEntry = 32
 abbrev pub directMapped : ℕ
 directMapped = 32
 
--- and this stands for none: no data access, or one that faulted
+-- and this stands for none: no data access, one that faulted, no step, or a refused call
 abbrev pub noSlot : ℕ
 noSlot = 33
 

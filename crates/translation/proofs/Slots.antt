@@ -1,6 +1,6 @@
 -- The slot of a granted address names the TLB entry that served it, or says that the address is direct-mapped; and but for the slot the translation
 -- is what it was without one (document 02, job 2).
-use mathlib.Core.Path.{_≡_, refl, ap, sym, subst, _∙_}
+use mathlib.Core.Path.{_≡_, refl, sym, subst}
 use mathlib.Core.Logic.{⊎-elim}
 use mathlib.Core.Bool.{Bool, true, false, not, cond}
 use mathlib.Core.List.{List}
@@ -8,15 +8,13 @@ use Prim.Native.Nat.{ℕ, _+_, _*_, _-_, _%_, _≤_, _<_}
 use native.Mathlib.Omega.{arith}
 use lib.Dec.{leb, ltb, eqb}
 use lib.ListN.{getD}
-use borrow.Author.Tests.{leb-true, leb-false}
 use Rattle.words.specs.Logic.{both, Exactly}
 use Rattle.words.specs.Identifiers.{tlbMiss, tlbWrite, tlbInvalid, illegalAddress, privilegedAddress}
-use Rattle.words.proofs.Cases.{below-or-not}
 use Rattle.tlb.specs.Lookup.{pageOf, noEntry, directMapped, lookup}
 use Rattle.tlb.proofs.Lowest.{lookup-has, lookup-first}
 use Rattle.translation.specs.Translation.{frameOf, valid, writable, through, mapped, forbidden, translated, resolved}
 use Rattle.translation.specs.declared.Translation.{Translation}
-use Rattle.translation.specs.declared.Translation.the-variants.{Physical, TlbMiss, TlbWrite, TlbInvalid, IllegalAddress, PrivilegedAddress}
+use Rattle.translation.specs.declared.Translation.the-variants.{Physical}
 use Rattle.translation.proofs.Granted.{Mapped, Passed, passed}
 
 -- ---- which entry

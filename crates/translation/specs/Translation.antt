@@ -70,7 +70,7 @@ resolved at fault TlbInvalid = fault tlbInvalid
 resolved at fault IllegalAddress = fault illegalAddress
 resolved at fault PrivilegedAddress = fault privilegedAddress
 
--- the numbers of an answer: the exception that it names, or `noException`; the physical address, 0 where it faults; and the slot, then `noSlot`
+-- the numbers of an answer: the exception that it names, or `noException`; the physical address, or 0 where it faults; and the slot, or `noSlot`
 abbrev pub translationEid : Translation → ℕ
 translationEid t = resolved (λ address slot. noException) (λ eid. eid) t
 

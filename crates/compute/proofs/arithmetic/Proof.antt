@@ -27,11 +27,15 @@ arithmetic-spec =
     (λ c. simp (c .before .before .match .keys7, c .into-r4 .ensures, c .before .multiply3 .ensures .0))
     (λ c. simp (c .before .before .before .match .keys8, c .into-y4 .ensures, c .before .multiply4 .ensures .0, c .before .before .zero-extend-16 .ensures))
     (λ c. simp (c .before .before .match .keys9, c .divided .ensures, c .before .divide-signed .ensures))
-    (λ c. simp (c .before .before .before .match .keys10, c .divided2 .ensures, c .before .divide-signed2 .ensures, c .before .before .sign-extend-164 .ensures))
+    (λ c. let b = c .before .before in
+    simp (b .before .match .keys10, c .divided2 .ensures, c .before .divide-signed2 .ensures, b .sign-extend-164 .ensures))
     (λ c. simp (c .before .before .match .keys11, c .divided3 .ensures, c .before .divide-unsigned .ensures))
-    (λ c. simp (c .before .before .before .match .keys12, c .divided4 .ensures, c .before .divide-unsigned2 .ensures, c .before .before .zero-extend-162 .ensures))
+    (λ c. let b = c .before .before in
+    simp (b .before .match .keys12, c .divided4 .ensures, c .before .divide-unsigned2 .ensures, b .zero-extend-162 .ensures))
     (λ c. simp (c .before .before .match .keys13, c .divided5 .ensures, c .before .remainder-signed .ensures))
-    (λ c. simp (c .before .before .before .match .keys14, c .divided6 .ensures, c .before .remainder-signed2 .ensures, c .before .before .sign-extend-165 .ensures))
+    (λ c. let b = c .before .before in
+    simp (b .before .match .keys14, c .divided6 .ensures, c .before .remainder-signed2 .ensures, b .sign-extend-165 .ensures))
     (λ c. simp (c .before .before .match .keys15, c .divided7 .ensures, c .before .remainder-unsigned .ensures))
-    (λ c. simp (c .before .before .before .match .keys16, c .divided8 .ensures, c .before .remainder-unsigned2 .ensures, c .before .before .zero-extend-163 .ensures))
+    (λ c. let b = c .before .before in
+    simp (b .before .match .keys16, c .divided8 .ensures, c .before .remainder-unsigned2 .ensures, b .zero-extend-163 .ensures))
     (λ c. c .logic .ensures))

@@ -34,5 +34,6 @@ logic-spec =
     (λ c. simp (c .before .before .match .keys11, c .into-r6 .ensures, c .before .shift-right .ensures))
     (λ c. simp (c .before .before .before .match .keys12, c .into-y6 .ensures, c .before .shift-right2 .ensures, c .before .before .zero-extend-166 .ensures))
     (λ c. simp (c .before .before .match .keys13, c .into-r7 .ensures, c .before .shift-arithmetic .ensures))
-    (λ c. simp (c .before .before .before .match .keys14, c .into-y7 .ensures, c .before .shift-arithmetic2 .ensures, c .before .before .zero-extend-167 .ensures))
+    (λ c. let b = c .before .before in
+    simp (b .before .match .keys14, c .into-y7 .ensures, c .before .shift-arithmetic2 .ensures, b .zero-extend-167 .ensures))
     (λ c. simp (c .before .before .match .keys15, c .into-y8 .ensures, c .before .load-high .ensures)) returns-16)

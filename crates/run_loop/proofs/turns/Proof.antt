@@ -65,7 +65,8 @@ loop-again c =
     let at-loop = at-loop-test .before in
     again (at-loop .loop .inv) (at-loop-test .loop-test .taken) (at-lines .lines .ensures) (at-look-at .look-at .ensures)
     (ap actionOf (at-action .action .given .1)) (joined (jumps _ _ _ _ _ (c .jump .ensures) ∙ ap indexMoved (zero-written _ _ _ _ (c .before .if1 .taken)))
-    (at-tick .tick .ensures) refl) (none-goes-on _) refl refl (jump-found _ _ _ (at-follow .follow .ensures .1) _ _ (c .jump .ensures)) (c .before .before .last-slot .ensures)
+    (at-tick .tick .ensures) refl) (none-goes-on _) refl refl (jump-found _ _ _ (at-follow .follow .ensures .1) _ _ (c .jump .ensures))
+    (c .before .before .last-slot .ensures)
 
 loop-less-2 : tie.Need-loop-less-2 Inv-loop μ-loop
 loop-less-2 c =
@@ -187,7 +188,7 @@ pub turns-spec : {M : Type 1} → statement M
 turns-spec =
     tie.close
     (tie.spec Inv-loop μ-loop (λ c κs. search needs) loop-holds (λ c κs. search needs) follow-requires (λ c κs. search needs) look-at-requires add-steps
-    (λ c. search needs) (λ c κs. search needs) (λ c. search needs) (λ c κs. search needs) loop-less loop-again (λ c κs. search needs) (λ c. search needs) (λ c. search needs)
-    loop-less-2 loop-again-2 (λ c. search needs) (λ c κs. search needs) (λ c κs. search needs) (λ c κs. search needs) (λ c κs. search needs) (λ c κs. search needs) loop-less-3
-    loop-again-3 (λ c κs. search needs) (λ c κs. search needs) (λ c κs. search needs) loop-less-4 loop-again-4 (λ c. search needs) (λ c κs. search needs)
-    loop-less-5 loop-again-5 same-length same-length-2 returns same-length-3 same-length-4 returns-2)
+    (λ c. search needs) (λ c κs. search needs) (λ c. search needs) (λ c κs. search needs) loop-less loop-again (λ c κs. search needs) (λ c. search needs)
+    (λ c. search needs) loop-less-2 loop-again-2 (λ c. search needs) (λ c κs. search needs) (λ c κs. search needs) (λ c κs. search needs)
+    (λ c κs. search needs) (λ c κs. search needs) loop-less-3 loop-again-3 (λ c κs. search needs) (λ c κs. search needs) (λ c κs. search needs) loop-less-4
+    loop-again-4 (λ c. search needs) (λ c κs. search needs) loop-less-5 loop-again-5 same-length same-length-2 returns same-length-3 same-length-4 returns-2)
