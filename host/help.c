@@ -46,7 +46,15 @@ static const char *const parts[] = {
     "                       Counter= and Control=, and PC=, the PC after it, if that is\n"
     "                       not the next word's; Counter= is left out where it just goes\n"
     "                       down by 1, or rests with divisor 0, and the replacement index\n"
-    "                       always, since every step moves it\n"
+    "                       always, since every step moves it; with --charges, Charge=\n"
+    "                       before PC=\n"
+    "  --charges FILE       what the steps cost: text lines \"NAME CHARGE\", at least one,\n"
+    "                       each ended by a line feed; NAME is a mnemonic in either letter\n"
+    "                       case, the two hexadecimal digits of an opcode, or exception,\n"
+    "                       for a step that accepts one; CHARGE is 0 to 65535; what is not\n"
+    "                       named costs 0, and nothing is named twice; # begins a comment\n"
+    "  --charge-table       with --charges, after the run a table of the names with their\n"
+    "                       steps and charges, where there are steps, and their sums\n"
     "  --registers          the registers, the replacement index and the timer after the\n"
     "                       run\n"
     "  --tlb                the TLB after the run (v valid, w writable)\n"
@@ -57,9 +65,11 @@ static const char *const parts[] = {
     "                       RAM); prints a line for each word that differs; # begins a\n"
     "                       comment\n"
     "The line about the steps names the data slot if the last step completed a load or\n"
-    "store: the TLB entry that served it, or 32 for an address from C0000000 up.\n"
+    "store: the TLB entry that served it, or 32 for an address from C0000000 up. With\n"
+    "--charges it has the charge of the whole run.\n"
     "A run of more than 1,000,000 steps without --trace shows its progress on standard\n"
-    "error, if that is a terminal. --trace, --until-pc and --break make a run slower.\n"
+    "error, if that is a terminal. --trace, --until-pc, --break and --charge-table make a\n"
+    "run slower.\n"
     "\n",
     "What is written after the run:\n"
     "  --save FILE          the machine's record, 424 bytes\n"
@@ -82,6 +92,7 @@ static const char *const parts[] = {
     "refuses:\n"
     "  11 RAM length   12 ROM length   13 belt length   14 record length\n"
     "  15 kind byte    16 unfit machine   17 steps   18 no RAM behind the page\n"
+    "  19 length of the list of charges\n"
     "A file longer than the model takes gets the same status, and is not read.\n",
 };
 

@@ -1,6 +1,7 @@
 /* eco32: a command-line host of the ECO32 model. Its help says what it does. */
 #define _XOPEN_SOURCE 700
 
+#include "charges.h"
 #include "compare.h"
 #include "options.h"
 #include "outputs.h"
@@ -36,6 +37,8 @@ static int prepare(const struct options *options, struct job *job)
     if (status == STATUS_GOOD)
         status = script_read(options, &job->script);
     if (status == STATUS_GOOD)
+        status = charges_read(options, &job->world);
+    if (status == STATUS_GOOD)
         status = compare_read(options, &job->world, &job->words);
     return status;
 }
@@ -45,6 +48,8 @@ static int show(const struct options *options, const struct job *job)
 {
     int status = STATUS_GOOD;
 
+    if (options->given[OPTION_CHARGE_TABLE] != NULL)
+        tally_print(&job->ending.tally, job->world.charges);
     if (options->given[OPTION_REGISTERS] != NULL)
         print_registers(job->world.machine);
     if (options->given[OPTION_TLB] != NULL)

@@ -27,6 +27,8 @@ static const struct {
     FORM(OPTION_LINES_SCRIPT, "lines-script", required_argument),
     FORM(OPTION_FIRST_STEP, "first-step", required_argument),
     FORM(OPTION_TRACE, "trace", no_argument),
+    FORM(OPTION_CHARGES, "charges", required_argument),
+    FORM(OPTION_CHARGE_TABLE, "charge-table", no_argument),
     FORM(OPTION_REGISTERS, "registers", no_argument),
     FORM(OPTION_TLB, "tlb", no_argument),
     FORM(OPTION_VIEW, "view", required_argument),
@@ -167,6 +169,8 @@ int options_read(int count, char **words, struct options *options)
     status = take_files(count, words, options);
     if (status == STATUS_GOOD && options->rom == NULL)
         return say_bad("usage", "eco32 [OPTION]... ROM [RAM] (see --help)");
+    if (status == STATUS_GOOD && options->given[OPTION_CHARGE_TABLE] != NULL && options->given[OPTION_CHARGES] == NULL)
+        return say_bad("--charge-table", "only with --charges");
     if (status == STATUS_GOOD)
         status = take_decimals(options);
     return status == STATUS_GOOD ? take_hexadecimals(options) : status;

@@ -29,7 +29,8 @@ static int say_same(const struct output *output, const char *other, const char *
 /* Whether a file that is read is this output. Those that cannot be found are told when they are read. */
 static int check_inputs(const struct options *options, const struct output *output)
 {
-    static const enum option_name read[] = {OPTION_LOAD, OPTION_BELT, OPTION_LINES_SCRIPT, OPTION_COMPARE};
+    static const enum option_name read[] = {OPTION_LOAD, OPTION_BELT, OPTION_LINES_SCRIPT, OPTION_CHARGES,
+                                            OPTION_COMPARE};
     static const char is_input[] = ", which is an input";
     struct stat input;
 

@@ -1,12 +1,9 @@
-/* Text files of lines with two numbers. Blank lines do not count, nor anything from # to the end of a line. */
+/* Text files of lines with two numbers. Blank lines do not count, and # begins a comment. */
 #ifndef HOST_PAIRS_H
 #define HOST_PAIRS_H
 
 #include <stddef.h>
 #include <stdint.h>
-
-/* The longest text file that is read. */
-#define TEXT_MOST 16777216
 
 struct pair {
     size_t line; /* for messages; from 1 */

@@ -3,6 +3,7 @@
 #include "run.h"
 
 #include "eco32_text.h"
+#include "model.h"
 #include "print.h"
 #include "say.h"
 #include "script.h"
@@ -24,6 +25,11 @@ struct progress {
     int shows;      /* there are progress lines */
 };
 
+static int is_given(const struct options *options, enum option_name option)
+{
+    return options->given[option] != NULL;
+}
+
 /* Takes the lines of the next step, and answers for how many steps they hold, within what one call may make. */
 static uint64_t next_steps(const struct options *options, const struct pairs *script, uint64_t made,
                            struct progress *progress)
@@ -44,35 +50,54 @@ static uint64_t next_steps(const struct options *options, const struct pairs *sc
 /* A refusal of the run is one of what it was lent, so that is named. */
 static int say_run_refused(const struct options *options, uint32_t refusal)
 {
-    if (refusal == ECO32_REFUSED_RAM_LENGTH && options->given[OPTION_RAM_SIZE] != NULL)
+    if (refusal == ECO32_REFUSED_RAM_LENGTH && is_given(options, OPTION_RAM_SIZE))
         return say_refused("--ram-size", options->given[OPTION_RAM_SIZE], refusal);
-    if (refusal == ECO32_REFUSED_BELT_LENGTH && options->given[OPTION_BELT] != NULL)
+    if (refusal == ECO32_REFUSED_BELT_LENGTH && is_given(options, OPTION_BELT))
         return say_refused(options->given[OPTION_BELT], NULL, refusal);
     return say_refused("run", NULL, refusal);
+}
+
+/* One call of the library, by the user's charges, if there are any. With --charge-table it makes one step at most, and
+ * the step's entry is counted. */
+static struct eco32_charged make(const struct options *options, struct world *world, struct request *request,
+                                 struct tally *tally)
+{
+    uint8_t marks[ECO32_CHARGES_LENGTH];
+    struct eco32_charged answer;
+
+    request->charges = is_given(options, OPTION_CHARGES) ? world->charges : NULL;
+    if (!is_given(options, OPTION_CHARGE_TABLE))
+        return model_run(world, request);
+    tally_list(marks);
+    request->charges = marks;
+    answer = model_run(world, request);
+    if (answer.steps != 0)
+        answer.charge = tally_step(tally, answer.charge, world->charges);
+    return answer;
 }
 
 static int call(const struct options *options, struct world *world, uint64_t steps, uint16_t lines,
                 struct ending *ending)
 {
-    int traced = options->given[OPTION_TRACE] != NULL;
-    int until = options->given[OPTION_UNTIL_EXCEPTION] != NULL;
+    int traced = is_given(options, OPTION_TRACE);
+    int until = is_given(options, OPTION_UNTIL_EXCEPTION);
+    /* A traced step is a run of its own: its slot is the answer's. Only a run to exception names the EID. */
+    struct request request = {steps, lines, traced || until, NULL};
     struct trace before;
-    struct eco32_answer answer;
+    struct eco32_charged answer;
 
     if (traced)
         trace_before(world, &before);
-    /* A traced step is a run of its own: its slot is the answer's. Only a run to exception names the EID. */
-    answer = (traced || until ? eco32_run_to_exception : eco32_run)(
-        world->machine, sizeof world->machine, world->ram.at, world->ram.length, world->rom.at, world->rom.length,
-        world->belt.at, world->belt.length, steps, lines);
+    answer = make(options, world, &request, &ending->tally);
     if (answer.refusal != ECO32_ACCEPTED)
         return say_run_refused(options, answer.refusal);
     ending->made += answer.steps;
     ending->slot = answer.slot;
+    ending->charge += answer.charge;
     if (until)
         ending->eid = answer.eid;
     if (traced && answer.steps != 0)
-        trace_after(options->first_step + ending->made - 1, &answer, &before, world);
+        trace_after(options->first_step + ending->made - 1, &answer, is_given(options, OPTION_CHARGES), &before, world);
     return STATUS_GOOD;
 }
 
@@ -91,7 +116,7 @@ static void look_at_pc(const struct options *options, const struct world *world,
 {
     uint32_t pc = state_pc(world->machine);
 
-    ending->reached = options->given[OPTION_UNTIL_PC] != NULL && pc == options->until_pc;
+    ending->reached = is_given(options, OPTION_UNTIL_PC) && pc == options->until_pc;
     ending->broke = 0;
     for (size_t i = 0; i < options->breaks.count; i++)
         ending->broke |= ending->made != 0 && pc == options->breaks.number[i];
@@ -116,13 +141,15 @@ static void print_end(const struct options *options, const struct world *world, 
            state_mode(world->machine));
     if (ending->eid != ECO32_NO_EXCEPTION)
         printf(", EID %02" PRIu32 " (%s)", ending->eid, eco32_exception_name(ending->eid));
-    else if (options->given[OPTION_UNTIL_EXCEPTION] != NULL)
+    else if (is_given(options, OPTION_UNTIL_EXCEPTION))
         printf(", no exception");
     if (ending->slot != ECO32_NO_SLOT) {
         printf(", data ");
         print_slot(ending->slot);
     }
-    if (options->given[OPTION_UNTIL_PC] != NULL)
+    if (is_given(options, OPTION_CHARGES))
+        printf(", charge %" PRIu64, ending->charge);
+    if (is_given(options, OPTION_UNTIL_PC))
         printf(", --until-pc %08" PRIX64 " %s", options->until_pc, ending->reached ? "reached" : "not reached");
     if (ending->broke)
         printf(", stopped by --break");
@@ -131,13 +158,13 @@ static void print_end(const struct options *options, const struct world *world, 
 
 int run(const struct options *options, const struct pairs *script, struct world *world, struct ending *ending)
 {
-    int by_step = options->given[OPTION_TRACE] != NULL || options->given[OPTION_BREAK] != NULL ||
-                  options->given[OPTION_UNTIL_PC] != NULL;
+    int by_step = is_given(options, OPTION_TRACE) || is_given(options, OPTION_BREAK) ||
+                  is_given(options, OPTION_UNTIL_PC) || is_given(options, OPTION_CHARGE_TABLE);
     struct progress progress = {by_step ? 1 : ECO32_MOST_STEPS, 0, 0, options->lines, 0};
     int status;
 
-    progress.shows = options->steps > ECO32_MOST_STEPS && options->given[OPTION_TRACE] == NULL && isatty(STDERR_FILENO);
-    *ending = (struct ending){0, ECO32_NO_EXCEPTION, ECO32_NO_SLOT, 0, 0, 0, 0};
+    progress.shows = options->steps > ECO32_MOST_STEPS && !is_given(options, OPTION_TRACE) && isatty(STDERR_FILENO);
+    *ending = (struct ending){.eid = ECO32_NO_EXCEPTION, .slot = ECO32_NO_SLOT};
     stop_prepare();
     errno = 0;
     /* A run of no steps is a call too, for its refusals. */

@@ -105,7 +105,7 @@ static void trace_timer(const uint8_t *before, const uint8_t *after)
         printf(" Control=%" PRIX32, state_timer_control(after));
 }
 
-void trace_after(uint64_t step, const struct eco32_answer *answer, const struct trace *before,
+void trace_after(uint64_t step, const struct eco32_charged *answer, int charged, const struct trace *before,
                  const struct world *world)
 {
     uint32_t eid = answer->eid;
@@ -128,6 +128,8 @@ void trace_after(uint64_t step, const struct eco32_answer *answer, const struct 
         trace_store(before, world);
     trace_slot(answer->slot);
     trace_timer(before->machine, world->machine);
+    if (charged)
+        printf(" Charge=%" PRIu64, answer->charge);
     if (next != pc + 4)
         printf(" PC=%08" PRIX32, next);
     putchar('\n');

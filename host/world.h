@@ -1,4 +1,4 @@
-/* What is lent to the model: the machine with its timer, RAM, ROM and the belt. */
+/* What is lent to the model: the machine with its timer, RAM, ROM, the belt and the list of charges. */
 #ifndef HOST_WORLD_H
 #define HOST_WORLD_H
 
@@ -11,9 +11,10 @@ struct world {
     struct bytes ram;
     struct bytes rom;
     struct bytes belt;
+    uint8_t charges[ECO32_CHARGES_LENGTH]; /* of --charges; else not lent */
 };
 
-/* Makes what the options say. Failures are told; the answer is an exit status. `world` is the caller's to free
+/* Makes what the options say, but for the charges. Failures are told; the answer is an exit status. `world` is the caller's to free
  * after, whatever the answer. */
 int world_make(const struct options *options, struct world *world);
 

@@ -37,6 +37,13 @@
  * completed none, or no step was made, it is ECO32_NO_SLOT (33). A page view
  * answers the slot of its lookup.
  *
+ * Charges. A charged run is a run that also answers what its steps cost, by a
+ * list of charges that you lend. A step that completes its instruction costs
+ * the charge of the instruction's opcode, the upper six bits of its word. A step
+ * that accepts an exception, be it an interrupt, a fault or a trap, costs the
+ * last charge of the list and nothing else. All else comes out as without
+ * charges.
+ *
  * Words in records, ROM and RAM images and belt registers are big-endian.
  *
  * eco32_text.h has words for refusal numbers and EIDs.
@@ -56,9 +63,9 @@ extern "C" {
  * need changes for a later one if the major number is another, or, as long as
  * that is 0, the minor number. */
 #define ECO32_VERSION_MAJOR 0
-#define ECO32_VERSION_MINOR 5
+#define ECO32_VERSION_MINOR 6
 #define ECO32_VERSION_PATCH 0
-#define ECO32_VERSION "0.5.0"
+#define ECO32_VERSION "0.6.0"
 
 /* The number N in libeco32.so.N, the name of the shared library. It goes up with
  * the first version in which a program that was linked before would no longer
@@ -120,6 +127,11 @@ extern "C" {
 #define ECO32_TIMER_CONTROL 0x30000000
 #define ECO32_TIMER_DIVISOR 0x30000004
 
+/* Length of a list of charges: 65 numbers of 16 bits, big-endian. Entry i stands
+ * at byte 2 * i. Entries 0 to 63 are the charges of the opcodes, entry 64 is that
+ * of an accepted exception. */
+#define ECO32_CHARGES_LENGTH 130
+
 /* Most steps that one run may be asked for. */
 #define ECO32_MOST_STEPS 1000000
 
@@ -131,17 +143,18 @@ extern "C" {
 #define ECO32_NO_SLOT 33       /* no data access, a faulted one, no step, or refused */
 
 /* Refusal numbers, in the order in which they are tested. */
-#define ECO32_ACCEPTED 0              /* not refused */
-#define ECO32_REFUSED_RAM_LENGTH 1    /* RAM length: no multiple of 4,096 in 4,096 .. 536,870,912 */
-#define ECO32_REFUSED_ROM_LENGTH 2    /* ROM length: no multiple of 4,096 in 4,096 .. 268,435,456 */
-#define ECO32_REFUSED_BELT_LENGTH 3   /* belt length not 1,024 */
-#define ECO32_REFUSED_RECORD_LENGTH 4 /* machine or record: only read and neither 414 nor 424 bytes, or
-                                         written and not 424 */
-#define ECO32_REFUSED_KIND_BYTE 5     /* a kind byte of the record is not in its place */
-#define ECO32_REFUSED_UNFIT_MACHINE 6 /* register 0 not 0, replacement index outside 4 .. 31, timer's
-                                         control above 3, or a bit set that is never kept */
-#define ECO32_REFUSED_STEPS 7         /* more than 1,000,000 steps wanted */
-#define ECO32_REFUSED_PAGE 8          /* page view: no RAM frame behind that page */
+#define ECO32_ACCEPTED 0               /* not refused */
+#define ECO32_REFUSED_RAM_LENGTH 1     /* RAM length: no multiple of 4,096 in 4,096 .. 536,870,912 */
+#define ECO32_REFUSED_ROM_LENGTH 2     /* ROM length: no multiple of 4,096 in 4,096 .. 268,435,456 */
+#define ECO32_REFUSED_BELT_LENGTH 3    /* belt length not 1,024 */
+#define ECO32_REFUSED_RECORD_LENGTH 4  /* machine or record: only read and neither 414 nor 424 bytes, or
+                                          written and not 424 */
+#define ECO32_REFUSED_KIND_BYTE 5      /* a kind byte of the record is not in its place */
+#define ECO32_REFUSED_UNFIT_MACHINE 6  /* register 0 not 0, replacement index outside 4 .. 31, timer's
+                                          control above 3, or a bit set that is never kept */
+#define ECO32_REFUSED_STEPS 7          /* more than 1,000,000 steps wanted */
+#define ECO32_REFUSED_PAGE 8           /* page view: no RAM frame behind that page */
+#define ECO32_REFUSED_CHARGES_LENGTH 9 /* charged run: length of the list of charges not 130 */
 
 /* Answer of a run. */
 struct eco32_answer {
@@ -149,6 +162,15 @@ struct eco32_answer {
     uint32_t steps;   /* steps made */
     uint32_t eid;     /* run to exception: EID of the exception that ended it, or 32; plain run: 32 */
     uint32_t slot;    /* of the last step's completed load or store: 0 to 31, or 32; else 33 */
+};
+
+/* Answer of a charged run: that of the run, and the charge. */
+struct eco32_charged {
+    uint32_t refusal; /* 0, or the refusal number; then steps is 0, eid 32, slot 33 and charge 0 */
+    uint32_t steps;   /* as in eco32_answer */
+    uint32_t eid;
+    uint32_t slot;
+    uint64_t charge;  /* the exact sum over the steps made: at most their number times the largest charge */
 };
 
 /* Answer of a page view. */
@@ -171,6 +193,12 @@ ECO32_ASSERT(offsetof(struct eco32_answer, refusal) == 0, "eco32_answer.refusal"
 ECO32_ASSERT(offsetof(struct eco32_answer, steps) == 4, "eco32_answer.steps");
 ECO32_ASSERT(offsetof(struct eco32_answer, eid) == 8, "eco32_answer.eid");
 ECO32_ASSERT(offsetof(struct eco32_answer, slot) == 12, "eco32_answer.slot");
+ECO32_ASSERT(sizeof(struct eco32_charged) == 24, "eco32_charged has 24 bytes");
+ECO32_ASSERT(offsetof(struct eco32_charged, refusal) == 0, "eco32_charged.refusal");
+ECO32_ASSERT(offsetof(struct eco32_charged, steps) == 4, "eco32_charged.steps");
+ECO32_ASSERT(offsetof(struct eco32_charged, eid) == 8, "eco32_charged.eid");
+ECO32_ASSERT(offsetof(struct eco32_charged, slot) == 12, "eco32_charged.slot");
+ECO32_ASSERT(offsetof(struct eco32_charged, charge) == 16, "eco32_charged.charge");
 ECO32_ASSERT(sizeof(struct eco32_view) == 24, "eco32_view has 24 bytes");
 ECO32_ASSERT(offsetof(struct eco32_view, refusal) == 0, "eco32_view.refusal");
 ECO32_ASSERT(offsetof(struct eco32_view, slot) == 4, "eco32_view.slot");
@@ -250,6 +278,36 @@ struct eco32_answer eco32_run_to_exception(uint8_t *machine, size_t machine_len,
                                            const uint8_t *rom, size_t rom_len,
                                            uint8_t *belt, size_t belt_len,
                                            uint64_t wanted, uint16_t lines);
+
+/*
+ * Plain run with charges: eco32_run, and what its steps cost.
+ *
+ *   charges  the list of charges, 130 bytes; never written
+ *
+ * Answers a refusal 0 to 7 or 9, steps, EID and slot as eco32_run does, and the
+ * charge. It is at most 65,535,000,000. No steps, and a refused run, cost 0.
+ * Machine, RAM and belt come out as from eco32_run, unless 9 refuses it.
+ */
+struct eco32_charged eco32_run_charged(uint8_t *machine, size_t machine_len,
+                                       uint8_t *ram, size_t ram_len,
+                                       const uint8_t *rom, size_t rom_len,
+                                       uint8_t *belt, size_t belt_len,
+                                       const uint8_t *charges, size_t charges_len,
+                                       uint64_t wanted, uint16_t lines);
+
+/*
+ * Run to exception with charges: eco32_run_to_exception, and what its steps
+ * cost. The step that accepted the exception is among them, with entry 64.
+ *
+ * Answers a refusal 0 to 7 or 9, steps, EID and slot as eco32_run_to_exception
+ * does, and the charge, as above.
+ */
+struct eco32_charged eco32_run_to_exception_charged(uint8_t *machine, size_t machine_len,
+                                                    uint8_t *ram, size_t ram_len,
+                                                    const uint8_t *rom, size_t rom_len,
+                                                    uint8_t *belt, size_t belt_len,
+                                                    const uint8_t *charges, size_t charges_len,
+                                                    uint64_t wanted, uint16_t lines);
 
 /*
  * Page view: finds the part of your RAM that a virtual page stands for. The

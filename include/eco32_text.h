@@ -35,6 +35,8 @@ static inline const char *eco32_refusal_text(uint32_t number)
     case ECO32_REFUSED_PAGE:
         return "the page number exceeds FFFFF, the load would fault, "
                "or its physical address is not in RAM";
+    case ECO32_REFUSED_CHARGES_LENGTH:
+        return "the list of charges is not 130 bytes";
     default:
         return "unknown refusal";
     }

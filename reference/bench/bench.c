@@ -1,6 +1,7 @@
 /*
  * Measures the model against the plain simulator in C and the simulator in Rust: the same image, the same run, in
  * one process, in turn. After each round all three have to have the same machine and memory, and the same last answer.
+ * And the model's charged run against its run without charges, in the same way; the plain simulator checks its charge.
  */
 #define _POSIX_C_SOURCE 200809L
 
@@ -19,6 +20,10 @@ typedef struct eco32_answer run(uint8_t *machine, size_t machine_len, uint8_t *r
                                 const uint8_t *rom, size_t rom_len, uint8_t *belt, size_t belt_len, uint64_t wanted,
                                 uint16_t lines);
 
+typedef struct eco32_charged charged_run(uint8_t *machine, size_t machine_len, uint8_t *ram, size_t ram_len,
+                                         const uint8_t *rom, size_t rom_len, uint8_t *belt, size_t belt_len,
+                                         const uint8_t *charges, size_t charges_len, uint64_t wanted, uint16_t lines);
+
 /* reference/bench/rust */
 run reference_run;
 
@@ -28,6 +33,17 @@ struct side {
 };
 
 static const struct side sides[SIDES] = {{"model", eco32_run}, {"C", plain_run}, {"Rust", reference_run}};
+
+/* The model first. C's charged run is not measured. */
+#define CHARGED_SIDES 2
+
+struct charged_side {
+    const char *name;
+    charged_run *run;
+};
+
+static const struct charged_side charged_sides[CHARGED_SIDES] = {{"model", eco32_run_charged},
+                                                                 {"C", plain_run_charged}};
 
 struct workload {
     const char *name;
@@ -40,6 +56,9 @@ static const struct workload workloads[] = {{"Kernel Mode, direct-mapped", image
                                             {"User Mode, eight pages", image_user, 0},
                                             {"Kernel Mode, timer running", image_kernel, 1},
                                             {"User Mode, timer running", image_user, 1}};
+
+static const struct workload charged_workloads[] = {{"Kernel Mode charged", image_kernel, 0},
+                                                    {"User Mode charged", image_user, 0}};
 
 struct options {
     uint64_t steps;
@@ -62,9 +81,10 @@ static double seconds(void)
     return (double)now.tv_sec + (double)now.tv_nsec * 1e-9;
 }
 
+static const uint8_t rom[ROM_LENGTH];
+
 static struct eco32_answer call(const struct side *side, struct world *world, uint64_t wanted)
 {
-    static const uint8_t rom[ROM_LENGTH];
     struct eco32_answer answer = side->run(world->record, sizeof world->record, world->ram, sizeof world->ram, rom,
                                            sizeof rom, world->belt, sizeof world->belt, wanted, 0);
 
@@ -165,6 +185,106 @@ static void report(const struct workload *workload, const struct options *option
     printf("\n");
 }
 
+/* A list without two equal entries. */
+static uint8_t charges[ECO32_CHARGES_LENGTH];
+
+static void make_charges(void)
+{
+    int n;
+
+    for (n = 0; n < ECO32_CHARGES_LENGTH; n++)
+        charges[n] = (uint8_t)(37 * n + 11);
+}
+
+static struct eco32_charged call_charged(const struct charged_side *side, struct world *world, uint64_t wanted)
+{
+    struct eco32_charged answer =
+        side->run(world->record, sizeof world->record, world->ram, sizeof world->ram, rom, sizeof rom, world->belt,
+                  sizeof world->belt, charges, sizeof charges, wanted, 0);
+
+    if (answer.refusal != ECO32_ACCEPTED || answer.steps != wanted)
+        fail(side->name, "did not make the steps of a charged run");
+    return answer;
+}
+
+/* Makes the steps as charged runs, and answers the seconds. The last answer takes the charge of all. */
+static double timed_charged(const struct charged_side *side, struct world *world, uint64_t steps,
+                            struct eco32_charged *last)
+{
+    double before = seconds();
+    uint64_t charge = 0;
+
+    while (steps > 0) {
+        uint64_t wanted = steps < ECO32_MOST_STEPS ? steps : ECO32_MOST_STEPS;
+
+        *last = call_charged(side, world, wanted);
+        charge += last->charge;
+        steps -= wanted;
+    }
+    last->charge = charge;
+    return seconds() - before;
+}
+
+/* The other answers and all bytes are those without charges, and C has the same charge. */
+static void check_charged(const struct world *plain, const struct eco32_answer *answer,
+                          const struct world charged[CHARGED_SIDES], const struct eco32_charged answers[CHARGED_SIDES])
+{
+    int n;
+
+    for (n = 0; n < CHARGED_SIDES; n++) {
+        struct eco32_answer other = {answers[n].refusal, answers[n].steps, answers[n].eid, answers[n].slot};
+
+        if (!same(plain, &charged[n]) || !same_answer(answer, &other))
+            fail(charged_sides[n].name, "comes to something else with charges");
+        if (answers[n].charge != answers[0].charge)
+            fail(charged_sides[n].name, "and the model do not agree on a charge");
+    }
+}
+
+/* The least times of the model, without charges and with them. */
+static void measure_charged(const struct world *start, uint64_t steps, uint64_t rounds, double least[2])
+{
+    static struct world plain;
+    static struct world charged[CHARGED_SIDES];
+    struct eco32_answer answer;
+    struct eco32_charged answers[CHARGED_SIDES];
+    uint64_t round;
+
+    for (round = 0; round < rounds; round++) {
+        double times[2];
+        int n;
+
+        plain = charged[0] = charged[1] = *start;
+        times[0] = timed(&sides[0], &plain, steps, &answer);
+        times[1] = timed_charged(&charged_sides[0], &charged[0], steps, &answers[0]);
+        timed_charged(&charged_sides[1], &charged[1], steps, &answers[1]);
+        check_charged(&plain, &answer, charged, answers);
+        for (n = 0; n < 2; n++)
+            if (round == 0 || times[n] < least[n])
+                least[n] = times[n];
+    }
+}
+
+/* What charging costs. The instructions one by one are only checked: one of them is an exception. */
+static void report_charged(const struct options *options)
+{
+    static struct world start;
+    double least[2] = {0, 0};
+    size_t row;
+
+    printf("\n%-26s %8s %8s %13s\n", "Million steps a second", "plain", "charged", "charged/plain");
+    for (row = 0; row < sizeof charged_workloads / sizeof charged_workloads[0]; row++) {
+        charged_workloads[row].image(&start);
+        measure_charged(&start, options->steps, options->rounds, least);
+        printf("%-26s %8.1f %8.1f %13.2f\n", charged_workloads[row].name, (double)options->steps / least[0] / 1e6,
+               (double)options->steps / least[1] / 1e6, least[0] / least[1]);
+    }
+    for (row = 0; row < KINDS; row++) {
+        image_kind(&start, &kinds[row]);
+        measure_charged(&start, 1000, 1, least);
+    }
+}
+
 /* What a step costs by its instruction. */
 static void report_kinds(const struct options *options)
 {
@@ -219,13 +339,15 @@ static void report_calls(const struct options *options)
     }
 }
 
-/* The stack of a thread that makes one call of the model, painted before: what is left of the paint was not used. */
+/* The stack of a thread that makes a call of the model and a charged one, painted before: what is left of the paint was
+ * not used. */
 enum { STACK = 1 << 18, PAINT = 0xA5 };
 static _Alignas(4096) uint8_t stack[STACK];
 
 static void *one_call(void *world)
 {
     call(&sides[0], world, 1000);
+    call_charged(&charged_sides[0], world, 1000);
     return NULL;
 }
 
@@ -298,9 +420,12 @@ int main(int count, char **words)
     printf("%-26s %8s %8s %8s %11s %11s\n", "", "model", "C", "Rust", "model/C", "model/Rust");
     for (n = 0; n < sizeof workloads / sizeof workloads[0]; n++)
         report(&workloads[n], &options);
+    make_charges();
+    report_charged(&options);
     report_kinds(&options);
     report_calls(&options);
     report_stack();
     printf("\nAfter each run the three had the same machine, memory and answer.\n");
+    printf("After each charged run the model and C had the same charge, and all else as without charges.\n");
     return 0;
 }

@@ -540,3 +540,48 @@ struct eco32_answer plain_run(uint8_t *machine, size_t machine_len, uint8_t *ram
     plain_write(&m, machine);
     return answer;
 }
+
+/* The opcode of the word that a step would fetch. It is looked up before the step, which may store over the word, and
+ * not told by it: a run without charges would be the slower. A step that cannot fetch tells the fault itself, so what
+ * the lookup leaves of the fault is taken back. */
+static uint32_t next_opcode(struct plain_machine *m, const struct plain_memory *memory)
+{
+    uint32_t high = m->special[ENTRY_HIGH];
+    uint32_t bad = m->special[BAD_ADDRESS];
+    uint32_t word = 0;
+
+    load(m, memory, m->pc, 4, &word);
+    m->special[ENTRY_HIGH] = high;
+    m->special[BAD_ADDRESS] = bad;
+    return word >> 26;
+}
+
+/* A completed instruction costs its opcode's charge, a step that accepts an exception entry 64 (document 02, job 3). */
+static uint32_t charge(const uint8_t *charges, uint32_t opcode, uint32_t eid)
+{
+    return from_bytes(charges + 2 * (eid < NONE ? 64 : opcode), 2);
+}
+
+struct eco32_charged plain_run_charged(uint8_t *machine, size_t machine_len, uint8_t *ram, size_t ram_len,
+                                       const uint8_t *rom, size_t rom_len, uint8_t *belt, size_t belt_len,
+                                       const uint8_t *charges, size_t charges_len, uint64_t wanted, uint16_t lines)
+{
+    struct plain_memory memory = {ram, ram_len, rom, rom_len, belt};
+    struct eco32_charged answer = {ECO32_ACCEPTED, (uint32_t)wanted, ECO32_NO_EXCEPTION, ECO32_NO_SLOT, 0};
+    struct plain_machine m;
+    uint64_t made;
+
+    (void)machine_len; /* 424, 1,024 and 130, as the caller has to see to */
+    (void)belt_len;
+    (void)charges_len;
+    plain_read(&m, machine);
+    for (made = 0; made < wanted; made++) {
+        uint32_t opcode = next_opcode(&m, &memory);
+        struct plain_answer last = plain_step(&m, &memory, lines);
+
+        answer.charge += charge(charges, opcode, last.eid);
+        answer.slot = last.slot;
+    }
+    plain_write(&m, machine);
+    return answer;
+}

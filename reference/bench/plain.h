@@ -54,4 +54,9 @@ struct plain_answer plain_step(struct plain_machine *m, const struct plain_memor
 struct eco32_answer plain_run(uint8_t *machine, size_t machine_len, uint8_t *ram, size_t ram_len, const uint8_t *rom,
                               size_t rom_len, uint8_t *belt, size_t belt_len, uint64_t wanted, uint16_t lines);
 
+/* The same with charges, called as eco32_run_charged is. It goes step by step, to check charges by and not paces. */
+struct eco32_charged plain_run_charged(uint8_t *machine, size_t machine_len, uint8_t *ram, size_t ram_len,
+                                       const uint8_t *rom, size_t rom_len, uint8_t *belt, size_t belt_len,
+                                       const uint8_t *charges, size_t charges_len, uint64_t wanted, uint16_t lines);
+
 #endif

@@ -1,12 +1,13 @@
 //! Host calls on record bytes, with the checks in the order of the table in
 //! document 01, "Refused calls". No buffer changes in a refused call. A record
-//! that is only read may have the old length (document 02, job 1).
+//! that is only read may have the old length (document 02, job 1). The length
+//! of a list of charges is checked last (document 02, job 3).
 
 use crate::memory::Memory;
 use crate::mmu::NO_SLOT;
 use crate::processor::Processor;
 use crate::record::{self, RECORD_LENGTH};
-use crate::run::{memory_refusal, ram_refusal, refusal, Answer};
+use crate::run::{memory_refusal, ram_refusal, refusal, Answer, Charged};
 use crate::view;
 
 /// Result of a page view in numbers; if refused the slot is 33, and offset and
@@ -92,6 +93,38 @@ pub fn run_to_exception(
     })
 }
 
+/// Charged plain run: refusals 1 to 7, then 9. The list is only read.
+pub fn run_charged(
+    machine: &mut [u8],
+    ram: &mut [u8],
+    rom: &[u8],
+    belt: &mut [u8],
+    charges: &[u8],
+    wanted: u64,
+    lines: u16,
+) -> Charged {
+    let memory = Memory { ram, rom, belt };
+    charged_on_record(machine, memory, |processor, memory| {
+        processor.run_charged(memory, charges, wanted, lines)
+    })
+}
+
+/// Charged run to exception: refusals 1 to 7, then 9. The list is only read.
+pub fn run_to_exception_charged(
+    machine: &mut [u8],
+    ram: &mut [u8],
+    rom: &[u8],
+    belt: &mut [u8],
+    charges: &[u8],
+    wanted: u64,
+    lines: u16,
+) -> Charged {
+    let memory = Memory { ram, rom, belt };
+    charged_on_record(machine, memory, |processor, memory| {
+        processor.run_to_exception_charged(memory, charges, wanted, lines)
+    })
+}
+
 fn run_on_record(
     machine: &mut [u8],
     mut memory: Memory,
@@ -106,6 +139,21 @@ fn run_on_record(
         record::write_record(&processor, machine);
     }
     answer
+}
+
+/// The same with a charge, which stays 0 where the machine is refused.
+fn charged_on_record(
+    machine: &mut [u8],
+    memory: Memory,
+    run: impl FnOnce(&mut Processor, &mut Memory) -> Charged,
+) -> Charged {
+    let mut charge = 0;
+    let answer = run_on_record(machine, memory, |processor, memory| {
+        let charged = run(processor, memory);
+        charge = charged.charge;
+        charged.answer
+    });
+    Charged { answer, charge }
 }
 
 /// Page view in numbers: refusals 1, 4, 5, 6 and 8.

@@ -10,6 +10,7 @@
 pub mod asm;
 pub mod belt;
 pub mod builder;
+pub mod charge;
 pub mod exception;
 pub mod host;
 pub mod listing;
@@ -23,12 +24,13 @@ pub mod timer;
 pub mod vectors;
 pub mod view;
 
+pub use charge::{Charges, CHARGES_LENGTH, EXCEPTION_ENTRY};
 pub use exception::{Fault, NO_EXCEPTION};
 pub use memory::{Memory, Width};
 pub use mmu::{DIRECT_MAPPED, NO_SLOT};
 pub use processor::{Processor, TlbEntry};
 pub use record::{read_record, write_record, OLD_RECORD_LENGTH, RECORD_LENGTH};
-pub use run::{refusal, Answer, MAX_STEPS};
+pub use run::{refusal, Answer, Charged, MAX_STEPS};
 pub use step::Stepped;
 pub use timer::Timer;
 pub use view::{page_view, PageView};

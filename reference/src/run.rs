@@ -1,5 +1,6 @@
 //! Runs of a processor handed over by value, and the refusal numbers.
 
+use crate::charge::Charges;
 use crate::exception::NO_EXCEPTION;
 use crate::memory::Memory;
 use crate::mmu::NO_SLOT;
@@ -9,7 +10,7 @@ use crate::step::Stepped;
 /// Most steps that one run may want.
 pub const MAX_STEPS: u64 = 1_000_000;
 
-/// Refusal numbers (document 01, "Refused calls").
+/// Refusal numbers (document 01, "Refused calls"; document 02, job 3).
 pub mod refusal {
     pub const NONE: u32 = 0;
     pub const RAM_LENGTH: u32 = 1;
@@ -20,6 +21,7 @@ pub mod refusal {
     pub const UNFIT_MACHINE: u32 = 6;
     pub const TOO_MANY_STEPS: u32 = 7;
     pub const NO_RAM_FRAME: u32 = 8;
+    pub const CHARGES_LENGTH: u32 = 9;
 }
 
 /// Result of a run. The slot is that of the last step's data access (document
@@ -39,6 +41,23 @@ impl Answer {
             steps: 0,
             eid: NO_EXCEPTION,
             slot: NO_SLOT,
+        }
+    }
+}
+
+/// Result of a charged run: that of the run, and the charge of its steps
+/// together, 0 if refused (document 02, job 3).
+#[derive(Clone, Copy, Debug, PartialEq, Eq)]
+pub struct Charged {
+    pub answer: Answer,
+    pub charge: u64,
+}
+
+impl Charged {
+    pub fn refused(refusal: u32) -> Charged {
+        Charged {
+            answer: Answer::refused(refusal),
+            charge: 0,
         }
     }
 }
@@ -117,7 +136,7 @@ impl Processor {
         let mut eid = NO_EXCEPTION;
         let mut slot = NO_SLOT;
         while u64::from(steps) < wanted && eid == NO_EXCEPTION {
-            Stepped { eid, slot } = self.step(memory, lines);
+            Stepped { eid, slot, .. } = self.step(memory, lines);
             steps += 1;
         }
         Answer {
@@ -126,5 +145,75 @@ impl Processor {
             eid,
             slot,
         }
+    }
+
+    /// Refusals as of a run without charges, and then 9 (document 02, job 3).
+    fn charges_for_run<'a>(
+        &self,
+        memory: &Memory,
+        charges: &'a [u8],
+        wanted: u64,
+    ) -> Result<Charges<'a>, u32> {
+        match self.run_refusal(memory, wanted) {
+            refusal::NONE => Charges::of(charges).ok_or(refusal::CHARGES_LENGTH),
+            refusal => Err(refusal),
+        }
+    }
+
+    /// Charged plain run (document 02, job 3): the steps of the plain run, and
+    /// the exact sum of what they cost.
+    pub fn run_charged(
+        &mut self,
+        memory: &mut Memory,
+        charges: &[u8],
+        wanted: u64,
+        lines: u16,
+    ) -> Charged {
+        match self.charges_for_run(memory, charges, wanted) {
+            Ok(charges) => self.charged_steps(memory, charges, wanted, lines, false),
+            Err(refusal) => Charged::refused(refusal),
+        }
+    }
+
+    /// Charged run to exception (document 02, job 3): the step that accepts the
+    /// exception is charged too.
+    pub fn run_to_exception_charged(
+        &mut self,
+        memory: &mut Memory,
+        charges: &[u8],
+        wanted: u64,
+        lines: u16,
+    ) -> Charged {
+        match self.charges_for_run(memory, charges, wanted) {
+            Ok(charges) => self.charged_steps(memory, charges, wanted, lines, true),
+            Err(refusal) => Charged::refused(refusal),
+        }
+    }
+
+    fn charged_steps(
+        &mut self,
+        memory: &mut Memory,
+        charges: Charges,
+        wanted: u64,
+        lines: u16,
+        to_exception: bool,
+    ) -> Charged {
+        let mut answer = Answer {
+            refusal: refusal::NONE,
+            steps: 0,
+            eid: NO_EXCEPTION,
+            slot: NO_SLOT,
+        };
+        let mut charge = 0;
+        while u64::from(answer.steps) < wanted && answer.eid == NO_EXCEPTION {
+            let stepped = self.step(memory, lines);
+            charge += charges.cost(stepped);
+            answer.steps += 1;
+            answer.slot = stepped.slot;
+            if to_exception {
+                answer.eid = stepped.eid;
+            }
+        }
+        Charged { answer, charge }
     }
 }

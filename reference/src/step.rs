@@ -7,18 +7,34 @@ use crate::mmu::{Access, NO_SLOT};
 use crate::processor::{Processor, PSW_IC};
 use crate::timer;
 
-/// What a step tells: the EID of the exception accepted in it, or 32, and the
-/// slot of its data access, or 33 if it completed none (document 02, job 2).
+/// What a step tells: the EID of the exception accepted in it, or 32; the slot
+/// of its data access, or 33 if it completed none (document 02, job 2); and the
+/// opcode of the instruction that it completed, by which it is charged, if it
+/// completed one (document 02, job 3).
 #[derive(Clone, Copy, Debug, PartialEq, Eq)]
 pub struct Stepped {
     pub eid: u32,
     pub slot: u32,
+    pub opcode: Option<u32>,
 }
 
 impl Stepped {
-    /// A step that accepts an exception has no completed access.
+    /// A step that accepts an exception has no completed access and no
+    /// completed instruction.
     fn accepted(eid: u32) -> Stepped {
-        Stepped { eid, slot: NO_SLOT }
+        Stepped {
+            eid,
+            slot: NO_SLOT,
+            opcode: None,
+        }
+    }
+
+    fn completed(opcode: u32, slot: u32) -> Stepped {
+        Stepped {
+            eid: NO_EXCEPTION,
+            slot,
+            opcode: Some(opcode),
+        }
     }
 }
 
@@ -86,10 +102,7 @@ impl Processor {
         }
         let own_pc = self.pc;
         match self.execute(memory) {
-            Ok(slot) => Stepped {
-                eid: NO_EXCEPTION,
-                slot,
-            },
+            Ok(stepped) => stepped,
             Err(fault) => {
                 self.accept_fault(own_pc, fault);
                 Stepped::accepted(fault.eid())
@@ -181,13 +194,18 @@ impl Processor {
     }
 
     /// Fetches and executes one instruction (manual 3.2). On a fault nothing
-    /// but the PC has changed, which exception entry overwrites. Answers the
-    /// slot of the data access, or 33; that of the fetch is not asked for
-    /// (document 02, job 2).
-    fn execute(&mut self, memory: &mut Memory) -> Result<u32, Fault> {
+    /// but the PC has changed, which exception entry overwrites. The slot of
+    /// the fetch is not asked for (document 02, job 2).
+    fn execute(&mut self, memory: &mut Memory) -> Result<Stepped, Fault> {
         let (word, _) = self.load(memory, self.pc, Width::Word)?;
         self.pc = self.pc.wrapping_add(4);
+        let slot = self.perform(memory, word)?;
+        Ok(Stepped::completed(word >> 26, slot))
+    }
 
+    /// Executes an instruction word, with the PC behind it. Answers the slot
+    /// of the data access, or 33.
+    fn perform(&mut self, memory: &mut Memory, word: u32) -> Result<u32, Fault> {
         // Fields of both formats: x, then y and r, or r and an immediate.
         let opcode = word >> 26;
         let second = word >> 16 & 31;

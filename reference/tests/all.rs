@@ -4,6 +4,8 @@ mod common;
 mod belt;
 mod builder;
 mod cases;
+mod charged_calls;
+mod charges;
 mod closed_points;
 mod compute;
 mod compute_bits;

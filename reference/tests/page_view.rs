@@ -132,7 +132,7 @@ fn view_agrees_with_a_kernel_mode_load() {
         for page in 0..16 {
             let view = page_view(&rig.ram, &rig.cpu, page);
             let mut load = rig.clone().set(1, (page as u32) << 12);
-            let Stepped { eid, slot } = load.stepped(0);
+            let Stepped { eid, slot, .. } = load.stepped(0);
             assert_eq!(view.slot, slot);
             if view.refusal == 0 {
                 assert_eq!(eid, 32);

@@ -10,6 +10,7 @@ static uint8_t machine[ECO32_RECORD_LENGTH];
 static uint8_t ram[2 * ECO32_FRAME_LENGTH];
 static uint8_t rom[ECO32_ROM_LEAST];
 static uint8_t belt[ECO32_BELT_LENGTH];
+static uint8_t charges[ECO32_CHARGES_LENGTH];
 
 /* ADDI R1, R0, 5; LDHI R2, C000; STW R1, R2, 0; TRAP. */
 static const uint8_t program[] = {
@@ -25,6 +26,13 @@ static void print_answer(const char *name, struct eco32_answer answer)
 {
     printf("%s: refusal %lu, steps %lu, eid %lu, slot %lu\n", name, (unsigned long)answer.refusal,
            (unsigned long)answer.steps, (unsigned long)answer.eid, (unsigned long)answer.slot);
+    printf("TEXT %s, %s\n", eco32_refusal_text(answer.refusal), eco32_exception_name(answer.eid));
+}
+
+static void print_charged(const char *name, struct eco32_charged answer)
+{
+    printf("%s: refusal %lu, steps %lu, eid %lu, slot %lu, charge %lu\n", name, (unsigned long)answer.refusal,
+           (unsigned long)answer.steps, (unsigned long)answer.eid, (unsigned long)answer.slot, (unsigned long)answer.charge);
     printf("TEXT %s, %s\n", eco32_refusal_text(answer.refusal), eco32_exception_name(answer.eid));
 }
 
@@ -52,6 +60,12 @@ static void print_layouts(void)
     print_number("eco32_answer.steps", offsetof(struct eco32_answer, steps));
     print_number("eco32_answer.eid", offsetof(struct eco32_answer, eid));
     print_number("eco32_answer.slot", offsetof(struct eco32_answer, slot));
+    print_number("eco32_charged", sizeof(struct eco32_charged));
+    print_number("eco32_charged.refusal", offsetof(struct eco32_charged, refusal));
+    print_number("eco32_charged.steps", offsetof(struct eco32_charged, steps));
+    print_number("eco32_charged.eid", offsetof(struct eco32_charged, eid));
+    print_number("eco32_charged.slot", offsetof(struct eco32_charged, slot));
+    print_number("eco32_charged.charge", offsetof(struct eco32_charged, charge));
     print_number("eco32_view", sizeof(struct eco32_view));
     print_number("eco32_view.refusal", offsetof(struct eco32_view, refusal));
     print_number("eco32_view.slot", offsetof(struct eco32_view, slot));
@@ -66,6 +80,25 @@ static void print_mapped(void)
     machine[ECO32_RECORD_TLB + 8 * 7 + 2] = machine[ECO32_RECORD_TLB + 8 * 7 + 6] = 0x10;
     machine[ECO32_RECORD_TLB + 8 * 7 + 7] = 1;
     print_view("mapped", eco32_page_view(ram, sizeof ram, machine, sizeof machine, 1));
+}
+
+/* The program again, from reset: ADDI costs 3, LDHI 261, STW 20, and an exception 1,000. */
+static void print_charges(void)
+{
+    charges[2 * 0x01 + 1] = 3;
+    charges[2 * 0x1F] = 1;
+    charges[2 * 0x1F + 1] = 5;
+    charges[2 * 0x35 + 1] = 20;
+    charges[2 * 64] = 0x03;
+    charges[2 * 64 + 1] = 0xE8;
+    print_number("reset", eco32_reset(machine, sizeof machine));
+    print_charged("charged", eco32_run_charged(machine, sizeof machine, ram, sizeof ram, rom, sizeof rom, belt, sizeof belt,
+                                               charges, sizeof charges, 3, 0));
+    print_charged("charged to exception",
+                  eco32_run_to_exception_charged(machine, sizeof machine, ram, sizeof ram, rom, sizeof rom, belt, sizeof belt,
+                                                 charges, sizeof charges, ECO32_MOST_STEPS, 0));
+    print_charged("no list", eco32_run_charged(machine, sizeof machine, ram, sizeof ram, rom, sizeof rom, belt, sizeof belt,
+                                               charges, sizeof charges - 1, 3, 0));
 }
 
 int main(void)
@@ -104,5 +137,6 @@ int main(void)
     print_number("unfit", eco32_read_record(copy, sizeof copy, machine, sizeof machine));
     copy[ECO32_RECORD_KIND_PC] = 9;
     print_number("kind", eco32_read_record(copy, sizeof copy, machine, sizeof machine));
+    print_charges();
     return 0;
 }

@@ -16,6 +16,10 @@ class Answer(ctypes.Structure):
     _fields_ = [("refusal", ctypes.c_uint32), ("steps", ctypes.c_uint32), ("eid", ctypes.c_uint32), ("slot", ctypes.c_uint32)]
 
 
+class Charged(ctypes.Structure):
+    _fields_ = Answer._fields_ + [("charge", ctypes.c_uint64)]
+
+
 class View(ctypes.Structure):
     _fields_ = [("refusal", ctypes.c_uint32), ("slot", ctypes.c_uint32), ("offset", ctypes.c_uint64), ("length", ctypes.c_uint64)]
 
@@ -60,6 +64,8 @@ read_record = call("eco32_read_record", ctypes.c_uint32, 2)
 write_record = call("eco32_write_record", ctypes.c_uint32, 2)
 run = call("eco32_run", Answer, 4, run_numbers)
 run_to_exception = call("eco32_run_to_exception", Answer, 4, run_numbers)
+run_charged = call("eco32_run_charged", Charged, 5, run_numbers)
+run_to_exception_charged = call("eco32_run_to_exception_charged", Charged, 5, run_numbers)
 page_view = call("eco32_page_view", View, 2, [ctypes.c_uint64])
 
 machine, copy = buffer(NUMBER["RECORD_LENGTH"]), buffer(NUMBER["RECORD_LENGTH"])
@@ -68,6 +74,7 @@ rom[:16] = bytes.fromhex("04010005 7C02C000 D4410000 B8000000")
 belt[3] = 7
 
 layout("eco32_answer", Answer)
+layout("eco32_charged", Charged)
 layout("eco32_view", View)
 print("reset", reset(machine))
 words("run", run(machine, ram, rom, belt, 3, 0))
@@ -97,3 +104,10 @@ copy[NUMBER["RECORD_REPLACEMENT"]] = 3
 print("unfit", read_record(copy, machine))
 copy[NUMBER["RECORD_KIND_PC"]] = 9
 print("kind", read_record(copy, machine))
+charges = buffer(NUMBER["CHARGES_LENGTH"])
+for index, charge in {0x01: 3, 0x1F: 261, 0x35: 20, 64: 1000}.items():
+    charges[2 * index:2 * index + 2] = charge.to_bytes(2, "big")
+print("reset", reset(machine))
+words("charged", run_charged(machine, ram, rom, belt, charges, 3, 0))
+words("charged to exception", run_to_exception_charged(machine, ram, rom, belt, charges, NUMBER["MOST_STEPS"], 0))
+words("no list", run_charged(machine, ram, rom, belt, (ctypes.c_uint8 * (len(charges) - 1)).from_buffer(charges), 3, 0))

@@ -16,11 +16,13 @@ use Rattle.processor.specs.declared.Processor.{Processor}
 use Rattle.record_layout.specs.Record.{kindsInPlace, processorOf, timerOf}
 use Rattle.machine.specs.Machine.{Machine, fitWith}
 use Rattle.step.specs.Step.{Stepped}
-use Rattle.refusals.specs.Refusal.{runTests, runRefusal}
-use Rattle.refusals.specs.Cause.{OnlyForItsCause, RamLength, RomLength, BeltLength, Steps}
-use Rattle.refusals.proofs.Lengths.{ram-accepted, rom-accepted, belt-accepted, steps-accepted}
+use Rattle.refusals.specs.Refusal.{chargesTests, runTests, runRefusal}
+use Rattle.refusals.specs.Cause.{numbersOf, OnlyForItsCause, RamLength, RomLength, BeltLength, Steps, ChargesLength}
+use Rattle.refusals.proofs.Lengths.{ram-accepted, rom-accepted, belt-accepted, steps-accepted, charges-accepted, charges-numbered}
 use Rattle.refusals.proofs.Cause.{only-for-its-cause}
-use Rattle.run_loop.specs.Run.{Request, Outcome, counted, countedAll, begun, runFrom, runOf}
+use Rattle.charges.specs.Charges.{Charging, Uncharged, ChargedBy}
+use Rattle.refusals.specs.Request.{Request}
+use Rattle.run_loop.specs.Run.{Outcome, counted, countedAll, begun, runFrom, runOf}
 use Rattle.run_calls.specs.Runs.{callTests, callRefusal, machineIn, recorded, called, callOf}
 use Rattle.record.specs.Calls.{recordTests, readRefusal, writeTests, writeRefusal}
 use Rattle.record.proofs.Answers.{readableLength, readable-old, readable-whole}
@@ -28,7 +30,7 @@ use Rattle.record_calls.specs.Records.{resetTests, resetRefusal, copyTests, cop
 use Rattle.record_calls.specs.Views.{callViewTests, callViewRefusal, callViewOf}
 use Rattle.page_view.specs.View.{lookedUp, viewTests, viewRefusal, viewOf}
 use Rattle.page_view.proofs.Answers.{viewed-refusal}
-use Rattle.acceptance.specs.Claim.{OnlyForCauses, Accepted}
+use Rattle.acceptance.specs.Claim.{ofCharging, OnlyForCauses, Accepted}
 
 -- ---- runs
 
@@ -38,31 +40,39 @@ unfolding countedAll
 keeps-the-number q o [] = refl
 keeps-the-number q o (s ∷ ss) = keeps-the-number q (counted q o s) ss
 
-pub run-answers : (q : Request) (m : Machine) → runOf q m .answer .refusal ≡ runRefusal m (q .wanted)
+pub run-answers : (q : Request) (m : Machine) → runOf q m .answer .refusal ≡ runRefusal m q
 unfolding runOf
 run-answers q m = keeps-the-number q _ _
 
-pub run : (q : Request) (m : Machine) → OnlyForItsCause (1 ∷ 2 ∷ 3 ∷ 6 ∷ 7 ∷ []) (runTests m (q .wanted)) (runOf q m .answer .refusal)
-unfolding runRefusal
-run q m = subst (OnlyForItsCause _ (runTests m (q .wanted))) (sym (run-answers q m)) (only-for-its-cause (runTests m (q .wanted)) refl)
+-- the numbers of a request's tests
+charging-numbers : (c : Charging) → numbersOf (chargesTests c) ≡ ofCharging c
+charging-numbers Uncharged = refl
+charging-numbers (ChargedBy s) = refl
 
-pub call-answers : (q : Request) (s : List ℕ) (m : Memory) → callOf q s m .answer .refusal ≡ callRefusal s m (q .wanted)
+pub run : (q : Request) (m : Machine) → OnlyForItsCause (1 ∷ 2 ∷ 3 ∷ 6 ∷ 7 ∷ ofCharging (q .charging)) (runTests m q) (runOf q m .answer .refusal)
+unfolding runRefusal
+run q m =
+    subst (λ (l : List ℕ). OnlyForItsCause (1 ∷ 2 ∷ 3 ∷ 6 ∷ 7 ∷ l) (runTests m q) (runOf q m .answer .refusal)) (charging-numbers (q .charging))
+    (subst (OnlyForItsCause _ (runTests m q)) (sym (run-answers q m)) (only-for-its-cause (runTests m q) (charges-numbered (q .charging))))
+
+pub call-answers : (q : Request) (s : List ℕ) (m : Memory) → callOf q s m .answer .refusal ≡ callRefusal s m q
 unfolding callOf runFrom
 call-answers q s m = go (eqb r 0) refl
   where
     r : ℕ
-    r = callRefusal s m (q .wanted)
+    r = callRefusal s m q
 
     go : (t : Bool) → eqb r 0 ≡ t
-        → cond t (recorded (runFrom q (q .wanted) (begun (machineIn s m) 0))) (called s m r 0 32 33) .answer .refusal ≡ r
+        → cond t (recorded (runFrom q (q .wanted) (begun (machineIn s m) 0))) (called s m r 0 32 33 0) .answer .refusal ≡ r
     go true e = keeps-the-number q _ _ ∙ sym (eqb-true r 0 e)
     go false e = refl
 
 pub exported-run : (q : Request) (s : List ℕ) (m : Memory)
-    → OnlyForItsCause (1 ∷ 2 ∷ 3 ∷ 4 ∷ 5 ∷ 6 ∷ 7 ∷ []) (callTests s m (q .wanted)) (callOf q s m .answer .refusal)
+    → OnlyForItsCause (1 ∷ 2 ∷ 3 ∷ 4 ∷ 5 ∷ 6 ∷ 7 ∷ ofCharging (q .charging)) (callTests s m q) (callOf q s m .answer .refusal)
 unfolding callRefusal
 exported-run q s m =
-    subst (OnlyForItsCause _ (callTests s m (q .wanted))) (sym (call-answers q s m)) (only-for-its-cause (callTests s m (q .wanted)) refl)
+    subst (λ (l : List ℕ). OnlyForItsCause (1 ∷ 2 ∷ 3 ∷ 4 ∷ 5 ∷ 6 ∷ 7 ∷ l) (callTests s m q) (callOf q s m .answer .refusal)) (charging-numbers (q .charging))
+    (subst (OnlyForItsCause _ (callTests s m q)) (sym (call-answers q s m)) (only-for-its-cause (callTests s m q) (charges-numbered (q .charging))))
 
 -- ---- records
 
@@ -116,19 +126,27 @@ only-for-causes =
 
 accepted-run : (q : Request) (m : Machine) → Exactly (runOf q m .answer .refusal ≡ 0) (
     RamLength (length (m .memory .ram)) × RomLength (length (m .memory .rom)) × BeltLength (length (m .memory .belt))
-    × (fitWith (m .processor) (m .timer) ≡ true) × Steps (q .wanted))
+    × (fitWith (m .processor) (m .timer) ≡ true) × Steps (q .wanted) × ChargesLength (q .charging))
 accepted-run q m = (
   (λ e.
       let t = run q m .accepted .0 e in
-      (ram-accepted _ .0 (t .0), rom-accepted _ .0 (t .1 .0), belt-accepted _ .0 (t .1 .1 .0), t .1 .1 .1 .0, steps-accepted _ .0 (t .1 .1 .1 .1 .0))),
+      let r = t .1 .1 .1 in (
+        ram-accepted _ .0 (t .0),
+        rom-accepted _ .0 (t .1 .0),
+        belt-accepted _ .0 (t .1 .1 .0),
+        r .0,
+        steps-accepted _ .0 (r .1 .0),
+        charges-accepted (q .charging) .0 (r .1 .1),
+      )),
   (λ h.
       run q m .accepted .1
-      (ram-accepted _ .1 (h .0) & rom-accepted _ .1 (h .1) & belt-accepted _ .1 (h .2) & h .3 & steps-accepted _ .1 (h .4) & tt)),
+      (ram-accepted _ .1 (h .0) & rom-accepted _ .1 (h .1) & belt-accepted _ .1 (h .2) & h .3 & steps-accepted _ .1 (h .4) & charges-accepted (q .charging) .1
+      (h .5))),
 )
 
 accepted-exported : (q : Request) (s : List ℕ) (m : Memory) → Exactly (callOf q s m .answer .refusal ≡ 0) (
     RamLength (length (m .ram)) × RomLength (length (m .rom)) × BeltLength (length (m .belt))
-    × (length s ≡ 424) × (kindsInPlace s ≡ true) × (fitWith (processorOf s) (timerOf s) ≡ true) × Steps (q .wanted))
+    × (length s ≡ 424) × (kindsInPlace s ≡ true) × (fitWith (processorOf s) (timerOf s) ≡ true) × Steps (q .wanted) × ChargesLength (q .charging))
 accepted-exported q s m = (
   (λ e.
       let t = exported-run q s m .accepted .0 e in
@@ -140,11 +158,12 @@ accepted-exported q s m = (
         r .1 .0,
         r .1 .1 .0,
         steps-accepted _ .0 (r .1 .1 .1 .0),
+        charges-accepted (q .charging) .0 (r .1 .1 .1 .1),
       )),
   (λ h.
       exported-run q s m .accepted .1
       (ram-accepted _ .1 (h .0) & rom-accepted _ .1 (h .1) & belt-accepted _ .1 (h .2) & eq-eqb _ _ (h .3) & h .4 & h .5
-      & steps-accepted _ .1 (h .6) & tt)),
+      & steps-accepted _ .1 (h .6) & charges-accepted (q .charging) .1 (h .7))),
 )
 
 -- ---- an accepted record

@@ -26,8 +26,10 @@ use Rattle.machine.proofs.Representing.{representable}
 use Rattle.step.specs.Step.{look, memoryDone, stepOf}
 use Rattle.step.proofs.StepFit.{step-fit, step-timer-fits}
 use Rattle.refusals.specs.Refusal.{ramAccepted, romAccepted, beltAccepted, runTests}
-use Rattle.refusals.specs.Cause.{AllPass}
-use Rattle.run_loop.specs.Run.{Request, Outcome, begun, runFrom, runOf}
+use Rattle.refusals.specs.Cause.{AllPass, Asked}
+use Rattle.refusals.specs.Request.{Request}
+use Rattle.refusals.proofs.Lengths.{charges-accepted}
+use Rattle.run_loop.specs.Run.{Outcome, begun, runFrom, runOf}
 use Rattle.run_loop.proofs.Kept.{from-keeps, run-keeps, run-representable, call-representable}
 use Rattle.record.proofs.Held.{held-value, held-timer}
 use Rattle.record.proofs.Fitness.{both-fit}
@@ -69,13 +71,13 @@ fits-mean p t e = let both = both-fit p t e in (fit-means p (both .0), leb-true 
 
 module _ (lent : Memory) (ram : ramAccepted (length (lent .ram)) ≡ true) (rom : romAccepted (length (lent .rom)) ≡ true)
     (belt : beltAccepted (length (lent .belt)) ≡ true) where
-  passes : (m : Machine) (wanted : ℕ) → Sound lent m → wanted ≤ 1000000 → AllPass (runTests m wanted)
-  passes m wanted s h =
+  passes : (m : Machine) (q : Request) → Sound lent m → Asked q → AllPass (runTests m q)
+  passes m q s h =
       (ap ramAccepted (s .0 .0) ∙ ram) & (ap romAccepted (s .0 .1) ∙ rom) & (ap beltAccepted (s .0 .2) ∙ belt)
-      & fits (m .processor) (m .timer) (s .1) (s .2) & le-leb wanted 1000000 h & tt
+      & fits (m .processor) (m .timer) (s .1) (s .2) & le-leb (q .wanted) 1000000 (h .0) & charges-accepted (q .charging) .1 (h .1)
 
-module _ (q : Request) (m : Machine) (accepted : runOf q m .answer .refusal ≡ 0) (later : Request) (most : later .wanted ≤ 1000000) where
-  passed : AllPass (runTests m (q .wanted))
+module _ (q : Request) (m : Machine) (accepted : runOf q m .answer .refusal ≡ 0) (later : Request) (most : Asked later) where
+  passed : AllPass (runTests m q)
   passed = run q m .accepted .0 accepted
 
   sound : Sound (m .memory) (runOf q m .machine)
@@ -86,12 +88,12 @@ module _ (q : Request) (m : Machine) (accepted : runOf q m .answer .refusal ≡ 
   by-value : runOf later (runOf q m .machine) .answer .refusal ≡ 0
   by-value =
       run later (runOf q m .machine) .accepted .1
-      (passes (m .memory) (passed .0) (passed .1 .0) (passed .1 .1 .0) (runOf q m .machine) (later .wanted) sound most)
+      (passes (m .memory) (passed .0) (passed .1 .0) (passed .1 .1 .0) (runOf q m .machine) later sound most)
 
 -- ---- both entry points, in any order
 
 by-any : (c : Call) (m : Machine) → Representable m → callOutcome c m .answer .refusal ≡ 0
-    → (later : Call) → later .request .wanted ≤ 1000000 → callOutcome later (callOutcome c m .machine) .answer .refusal ≡ 0
+    → (later : Call) → Asked (later .request) → callOutcome later (callOutcome c m .machine) .answer .refusal ≡ 0
 by-any c m r accepted later most =
     let first : callOutcome c m ≡ runOf (c .request) m = outcome-is c m r in
     let types : Representable (runOf (c .request) m .machine) = call-representable (c .request) m r in
@@ -122,13 +124,13 @@ module _ (q : Request) (s : List ℕ) (m : Memory) (bytes : Bytes s) (ram : Byte
   end : Outcome
   end = runFrom q (q .wanted) (begun (machineIn s m) 0)
 
-  module _ (accepted : callOf q s m .answer .refusal ≡ 0) (later : Request) (most : later .wanted ≤ 1000000) where
-    all : AllPass (callTests s m (q .wanted))
+  module _ (accepted : callOf q s m .answer .refusal ≡ 0) (later : Request) (most : Asked later) where
+    all : AllPass (callTests s m q)
     all = exported-run q s m .accepted .0 accepted
 
     made : callOf q s m ≡ recorded end
     unfolding callOf end
-    made = let none : callRefusal s m (q .wanted) ≡ 0 = sym (call-answers q s m) ∙ accepted in simp none
+    made = let none : callRefusal s m q ≡ 0 = sym (call-answers q s m) ∙ accepted in simp none
 
     left : Sound m (end .machine)
     unfolding end
@@ -144,9 +146,9 @@ module _ (q : Request) (s : List ℕ) (m : Memory) (bytes : Bytes s) (ram : Byte
     exported =
         ap (λ (c : Called). callOf later (c .buffer) (c .memory) .answer .refusal) made
         ∙ call-answers later (recordOf (end .machine .processor) (end .machine .timer)) (end .machine .memory)
-        ∙ refusal-is (end .machine) types (later .wanted)
+        ∙ refusal-is (end .machine) types later
         ∙ sym (run-answers later (end .machine))
-        ∙ run later (end .machine) .accepted .1 (passes m (all .0) (all .1 .0) (all .1 .1 .0) (end .machine) (later .wanted) left most)
+        ∙ run later (end .machine) .accepted .1 (passes m (all .0) (all .1 .0) (all .1 .1 .0) (end .machine) later left most)
 
 -- ---- all three
 

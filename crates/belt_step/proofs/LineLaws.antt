@@ -14,11 +14,11 @@ unfolding stepLine lineOf hexWord
 line-length step m = simp eid-parts
 
 -- what a step answered: the machine after it
-pub machine-of-step : (m : Machine) {n : Machine} {eid slot : ℕ} → stepped n eid slot ≡ stepOf m 0 → n ≡ following m
+pub machine-of-step : (m : Machine) {n : Machine} {eid slot opcode : ℕ} → stepped n eid slot opcode ≡ stepOf m 0 → n ≡ following m
 machine-of-step m e = ap (λ (s : Stepped). s .machine) e
 
 -- and its line
-pub line-of-step : (step : ℕ) (m : Machine) {n : Machine} {eid slot : ℕ} → stepped n eid slot ≡ stepOf m 0
+pub line-of-step : (step : ℕ) (m : Machine) {n : Machine} {eid slot opcode : ℕ} → stepped n eid slot opcode ≡ stepOf m 0
     → lineOf step (n .processor .pc) eid ≡ stepLine step m
 unfolding stepLine
 line-of-step step m e = ap (λ (s : Stepped). lineOf step (s .machine .processor .pc) (s .event .eid)) e

@@ -21,7 +21,8 @@ pub fn advance(
     at: usize,
 ) -> Stepped
     requires { ⌜ at + 14 ≤ length (now text) ⌝ }
-    ensures state { λ r. ⌜ stepped (after (r .processor) (r .timer) ram rom belt) (r .eid) (r .slot) ≡ stepOf (before p timer ram rom belt) 0 ⌝ }
+    ensures state { λ r. ⌜ stepped (after (r .processor) (r .timer) ram rom belt) (r .eid) (r .slot) (stepOf (before p timer ram rom belt) 0 .event .opcode)
+        ≡ stepOf (before p timer ram rom belt) 0 ⌝ }
     ensures text { λ r. ⌜ now (text .exit) ≡ paste (now (text .entry)) at (stepLine step (before p timer ram rom belt)) 14 ⌝ }
 {
     let stepped = run_loop::step(p, timer, ram, rom, belt, 0);

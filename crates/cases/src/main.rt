@@ -1,5 +1,6 @@
 // Document 01's cases that are run, a line for each: lengths, steps, records, page views, each refusal, and their order; and document 02's of
-// the timer, of the slots and of the replacement index.
+// the timer, of the replacement index, of the slots and of the charges.
+mod charges;
 mod indexes;
 mod lengths;
 mod reads;
@@ -21,6 +22,7 @@ fn main() {
     timers::print_timers();
     indexes::print_indexes();
     slots::print_slots();
+    charges::print_charges();
     steps::print_order();
     reads::print_reads();
     writes::print_writes();

@@ -26,8 +26,8 @@ fn print_outcome(outcome: Outcome) {
     }
 }
 
-// The run itself, with a program of two words at the start of the ROM.
-pub fn outcome_of(
+// The run itself, with a program of two words at the start of the ROM; `charged` says whether it is charged.
+pub fn charged_outcome_of(
     kind: bool,
     p: Processor,
     timer: Timer,
@@ -35,6 +35,8 @@ pub fn outcome_of(
     ram: usize,
     rom: usize,
     belt: usize,
+    charges: &[u8],
+    charged: bool,
     wanted: u64,
 ) -> Outcome
     requires { ⌜ (ram ≤ 8192) × (rom ≤ 8192) × (belt ≤ 2048) ⌝ }
@@ -53,10 +55,27 @@ pub fn outcome_of(
         &mut rambytes[..ram],
         &rombytes[..rom],
         &mut beltbytes[..belt],
+        charges,
+        charged,
         wanted,
         &ramcopy[..ram],
         &beltcopy[..belt],
     )
+}
+
+pub fn outcome_of(
+    kind: bool,
+    p: Processor,
+    timer: Timer,
+    program: u64,
+    ram: usize,
+    rom: usize,
+    belt: usize,
+    wanted: u64,
+) -> Outcome
+    requires { ⌜ (ram ≤ 8192) × (rom ≤ 8192) × (belt ≤ 2048) ⌝ }
+{
+    charged_outcome_of(kind, p, timer, program, ram, rom, belt, b"", false, wanted)
 }
 
 pub fn print_run(

@@ -2,7 +2,8 @@
 use run_calls::Answer;
 ghost use mathlib.Core.Path.{_≡_};
 ghost use Rattle.memory.specs.Lent.{lent, left};
-ghost use Rattle.run_loop.specs.Run.{plain, toException, request};
+ghost use Rattle.charges.specs.Charges.{Uncharged};
+ghost use Rattle.refusals.specs.Request.{plain, toException, request};
 ghost use Rattle.run_calls.specs.Runs.{called, callOf};
 
 #[no_mangle]
@@ -14,10 +15,10 @@ pub extern "C" fn eco32_run(
     wanted: u64,
     lines: u16,
 ) -> Answer
-    ensures { λ r. ⌜ called (now (machine .exit)) (left ram rom belt) (r .refusal) (r .steps) (r .eid) (r .slot)
-        ≡ callOf (request plain wanted lines) (now (machine .entry)) (lent ram rom belt) ⌝ }
+    ensures { λ r. ⌜ called (now (machine .exit)) (left ram rom belt) (r .refusal) (r .steps) (r .eid) (r .slot) 0
+        ≡ callOf (request plain wanted lines Uncharged) (now (machine .entry)) (lent ram rom belt) ⌝ }
 {
-    run_calls::call(machine, ram, rom, belt, wanted, lines, false)
+    run_calls::uncharged(machine, ram, rom, belt, wanted, lines, false)
 }
 
 #[no_mangle]
@@ -29,8 +30,8 @@ pub extern "C" fn eco32_run_to_exception(
     wanted: u64,
     lines: u16,
 ) -> Answer
-    ensures { λ r. ⌜ called (now (machine .exit)) (left ram rom belt) (r .refusal) (r .steps) (r .eid) (r .slot)
-        ≡ callOf (request toException wanted lines) (now (machine .entry)) (lent ram rom belt) ⌝ }
+    ensures { λ r. ⌜ called (now (machine .exit)) (left ram rom belt) (r .refusal) (r .steps) (r .eid) (r .slot) 0
+        ≡ callOf (request toException wanted lines Uncharged) (now (machine .entry)) (lent ram rom belt) ⌝ }
 {
-    run_calls::call(machine, ram, rom, belt, wanted, lines, true)
+    run_calls::uncharged(machine, ram, rom, belt, wanted, lines, true)
 }

@@ -14,7 +14,8 @@ use Rattle.record_layout.proofs.Written.{record-length}
 use Rattle.record.proofs.WrittenRead.{Value, holds}
 use Rattle.machine.specs.Machine.{Machine, Words32, Representable}
 use Rattle.refusals.specs.Refusal.{runRefusal}
-use Rattle.run_loop.specs.Run.{Request, Outcome, stepsOf, begun, runFrom, runOf}
+use Rattle.refusals.specs.Request.{Request}
+use Rattle.run_loop.specs.Run.{Outcome, stepsOf, begun, runFrom, runOf}
 use Rattle.run_loop.proofs.Loop.{run-is}
 use Rattle.run_loop.proofs.Kept.{run-representable}
 use Rattle.run_calls.specs.Runs.{machineIn, recorded, called, callRefusal, callSteps, callOf}
@@ -54,9 +55,9 @@ module _ (m : Machine) (r : Representable m) where
   machine-is = λ i. record { processor = held .1 i; timer = held .2 i; memory = m .memory }
 
   -- only fitness can be missing in it
-  pub refusal-is : (wanted : ℕ) → callRefusal s (m .memory) wanted ≡ runRefusal m wanted
+  pub refusal-is : (q : Request) → callRefusal s (m .memory) q ≡ runRefusal m q
   unfolding callRefusal runRefusal
-  refusal-is wanted =
+  refusal-is q =
       let kinds : kindsInPlace s ≡ true = means-kinds s (held .0) in
       rw (eq-eqb (length s) 424 (record-length (m .timer) (m .processor) (value m r .arrays)), kinds, held .1, held .2)
 
@@ -66,24 +67,24 @@ handed-back : (o : Outcome) → Representable (o .machine) → handedBack (recor
 handed-back o r = λ i. record { machine = machine-is (o .machine) r i; answer = o .answer }
 
 handed-refused : (m : Machine) (number : ℕ) → Representable m
-    → handedBack (called (recordOf (m .processor) (m .timer)) (m .memory) number 0 32 33) ≡ begun m number
+    → handedBack (called (recordOf (m .processor) (m .timer)) (m .memory) number 0 32 33 0) ≡ begun m number
 handed-refused m number r = λ i. record { machine = machine-is m r i; answer = begun m number .answer }
 
 module _ (q : Request) (m : Machine) (r : Representable m) where
   exported-outcome : outcomeBy Exported q m ≡ runOf q m
   unfolding callOf
-  exported-outcome = rw (refusal-is m r (q .wanted), machine-is m r, run-is q m) (go (eqb (runRefusal m (q .wanted)) 0))
+  exported-outcome = rw (refusal-is m r q, machine-is m r, run-is q m) (go (eqb (runRefusal m q) 0))
     where
       go : (t : Bool)
           → handedBack (cond t (recorded (runFrom q (q .wanted) (begun m 0)))
-          (called (recordOf (m .processor) (m .timer)) (m .memory) (runRefusal m (q .wanted)) 0 32 33))
-          ≡ cond t (runFrom q (q .wanted) (begun m 0)) (begun m (runRefusal m (q .wanted)))
+          (called (recordOf (m .processor) (m .timer)) (m .memory) (runRefusal m q) 0 32 33 0))
+          ≡ cond t (runFrom q (q .wanted) (begun m 0)) (begun m (runRefusal m q))
       go true = handed-back (runFrom q (q .wanted) (begun m 0)) (run-representable q (q .wanted) (begun m 0) r)
-      go false = handed-refused m (runRefusal m (q .wanted)) r
+      go false = handed-refused m (runRefusal m q) r
 
   exported-steps : stepsBy Exported q m ≡ stepsOf q m
   unfolding callSteps stepsOf
-  exported-steps = rw (refusal-is m r (q .wanted), machine-is m r)
+  exported-steps = rw (refusal-is m r q, machine-is m r)
 
 outcome-by : (e : EntryPoint) (q : Request) (m : Machine) → Representable m → outcomeBy e q m ≡ runOf q m
 outcome-by ByValue q m r = refl

@@ -16,7 +16,9 @@ use Rattle.step.specs.Step.{look, memoryDone, Event, Stepped, stepOf}
 use Rattle.refusals.specs.Refusal.{runTests, runRefusal}
 use Rattle.refusals.proofs.FirstFailed.{all-pass}
 use Rattle.refusals.proofs.Lengths.{ram-accepted, rom-accepted}
-use Rattle.run_loop.specs.Run.{Request, ends, stepsFrom}
+use Rattle.refusals.specs.Request.{Request}
+use Rattle.refusals.proofs.Lengths.{charges-numbered}
+use Rattle.run_loop.specs.Run.{ends, stepsFrom}
 use Rattle.step.proofs.StepRepresentable.{step-representable}
 use Rattle.isolation.specs.Trace.{Made, inUserMode}
 use Rattle.isolation.specs.Claim.{Held, Alike}
@@ -36,10 +38,10 @@ step-apart : (m : Machine) (lines : ℕ) → Apart (m .memory) → Apart (stepOf
 unfolding stepOf
 step-apart m lines h = done-apart (m .memory) (look m lines) h
 
-pub accepted-parts : (m : Machine) (wanted : ℕ) → runRefusal m wanted ≡ 0 → Apart (m .memory)
+pub accepted-parts : (m : Machine) (q : Request) → runRefusal m q ≡ 0 → Apart (m .memory)
 unfolding runRefusal
-accepted-parts m wanted e =
-    let passed = all-pass (runTests m wanted) refl e in
+accepted-parts m q e =
+    let passed = all-pass (runTests m q) (charges-numbered (q .charging)) e in
     accepted-apart (m .memory) (ram-accepted _ .0 (passed .0) .1) (rom-accepted _ .0 (passed .1 .0) .1)
 
 -- ---- what is carried along
@@ -58,9 +60,9 @@ module _ (start : Machine) where
   pub mode-same : (m n : Machine) → Both start m n → inUserMode n ≡ inUserMode m
   mode-same m n b = ap (λ (p : Processor). userMode (p .psw)) (sym (b .alike .processor))
 
-  pub refusal-same : (m n : Machine) → Both start m n → (wanted : ℕ) → runRefusal n wanted ≡ runRefusal m wanted
+  pub refusal-same : (m n : Machine) → Both start m n → (q : Request) → runRefusal n q ≡ runRefusal m q
   unfolding runRefusal
-  refusal-same m n b wanted = rw (b .alike .processor, b .alike .timer, b .alike .frames .ram, b .alike .frames .rom, b .alike .frames .belt)
+  refusal-same m n b q = rw (b .alike .processor, b .alike .timer, b .alike .frames .ram, b .alike .frames .rom, b .alike .frames .belt)
 
   module _ (lines : ℕ) where
     step-both : (m n : Machine) → Both start m n → inUserMode m ≡ true → Apart (m .memory) → Apart (n .memory)

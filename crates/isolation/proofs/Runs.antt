@@ -2,7 +2,7 @@
 use mathlib.Core.Path.{_≡_, refl, sym, subst, _∙_}
 use mathlib.Core.Bool.{Bool, true, false, cond, true≢false}
 use mathlib.Core.List.{List, [], _∷_, _++_}
-use Prim.Native.Nat.{suc}
+use Prim.Native.Nat.{suc, _+_}
 use lib.Dec.{eqb}
 use borrow.Author.Tests.{eqb-true}
 use Rattle.words.specs.Logic.{both}
@@ -10,7 +10,9 @@ use Rattle.words.specs.Lists.{Pairwise}
 use Rattle.machine.specs.Machine.{Machine}
 use Rattle.step.specs.Step.{Stepped}
 use Rattle.refusals.specs.Refusal.{runRefusal}
-use Rattle.run_loop.specs.Run.{Request, Outcome, answer, ends, stepsFrom, stepsOf, counted, countedAll, begun, runOf}
+use Rattle.charges.specs.Charges.{chargeOf}
+use Rattle.refusals.specs.Request.{Request}
+use Rattle.run_loop.specs.Run.{Outcome, answer, ends, stepsFrom, stepsOf, counted, countedAll, begun, runOf}
 use Rattle.isolation.specs.Trace.{Call, Made, inUserMode, madeWith, callOutcome, callTrace, upToLeaving, madeInUserMode}
 use Rattle.isolation.proofs.Entries.{outcome-is, trace-is}
 use Rattle.isolation.proofs.Lift.{Both, BothAfter, mode-same, refusal-same, accepted-parts, Agree, steps-agree}
@@ -30,6 +32,7 @@ module _ (start : Machine) where
         → counted q o s .answer ≡ counted q p t .answer
     same-counted o p s t a e = λ i.
         answer (a i .refusal) (suc (a i .steps)) (cond (ends (q .kind) (e i .eid)) (e i .eid) 32) (e i .slot)
+        (a i .charge + chargeOf (q .charging) (e i .opcode))
 
     steps-end : (o p : Outcome) (ss ts : List Stepped) → Both start (o .machine) (p .machine) → o .answer ≡ p .answer
         → Agree start (o .machine) (p .machine) ss ts
@@ -95,32 +98,32 @@ module _ (start : Machine) where
     abbrev q : Request
     q = c .request
 
-    same : runRefusal n (q .wanted) ≡ runRefusal m (q .wanted)
-    same = refusal-same start m n b (q .wanted)
+    same : runRefusal n q ≡ runRefusal m q
+    same = refusal-same start m n b q
 
-    agree-by : (t : Bool) → eqb (runRefusal m (q .wanted)) 0 ≡ t
+    agree-by : (t : Bool) → eqb (runRefusal m q) 0 ≡ t
         → Agree start m n (cond t (stepsFrom q (q .wanted) m) []) (cond t (stepsFrom q (q .wanted) n) [])
     agree-by true e =
-        let none = eqb-true (runRefusal m (q .wanted)) 0 e in
-        steps-agree start q (q .wanted) m n b (accepted-parts m (q .wanted) none) (accepted-parts n (q .wanted) (same ∙ none))
+        let none = eqb-true (runRefusal m q) 0 e in
+        steps-agree start q (q .wanted) m n b (accepted-parts m q none) (accepted-parts n q (same ∙ none))
     agree-by false e = tt
 
     agree : Agree start m n (stepsOf q m) (stepsOf q n)
     unfolding stepsOf
-    agree = rw same (agree-by (eqb (runRefusal m (q .wanted)) 0) refl)
+    agree = rw same (agree-by (eqb (runRefusal m q) 0) refl)
 
     -- before any step
     before-m : Outcome
-    before-m = begun m (runRefusal m (q .wanted))
+    before-m = begun m (runRefusal m q)
 
     before-n : Outcome
-    before-n = begun n (runRefusal n (q .wanted))
+    before-n = begun n (runRefusal n q)
 
     pub call-ends : Ended (madeInUserMode m (callTrace c m)) (madeInUserMode n (callTrace c n)) (callOutcome c m) (callOutcome c n)
     unfolding runOf before-m before-n
     call-ends =
         rw (trace-is c m (b .first), trace-is c n (b .second), outcome-is c m (b .first), outcome-is c n (b .second))
-        (steps-end q before-m before-n (stepsOf q m) (stepsOf q n) b (λ i. answer (sym same i) 0 32 33) agree)
+        (steps-end q before-m before-n (stepsOf q m) (stepsOf q n) b (λ i. answer (sym same i) 0 32 33 0) agree)
 
     pub call-pairs : inUserMode m ≡ true → (xs ys : List Made) → Onward q (callOutcome c m .machine) (callOutcome c n .machine) xs ys
         → Pairs q (callTrace c m ++ xs) (callTrace c n ++ ys)

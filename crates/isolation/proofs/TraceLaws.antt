@@ -12,7 +12,8 @@ use Rattle.words.proofs.Cases.{chosen}
 use Rattle.machine.specs.Machine.{Machine, Representable}
 use Rattle.step.specs.Step.{Stepped, stepOf}
 use Rattle.refusals.specs.Refusal.{runRefusal}
-use Rattle.run_loop.specs.Run.{Request, Outcome, ends, stepsFrom, stepsOf, counted, countedAll, begun, runOf}
+use Rattle.refusals.specs.Request.{Request}
+use Rattle.run_loop.specs.Run.{Outcome, ends, stepsFrom, stepsOf, counted, countedAll, begun, runOf}
 use Rattle.run_loop.proofs.Kept.{call-representable}
 use Rattle.isolation.specs.Trace.{Call, Made, madeWith, callOutcome, callTrace, traceOf}
 use Rattle.isolation.specs.Claim.{Consecutive}
@@ -71,7 +72,7 @@ trace-of-the-run c m r =
     record {
       lines = subst (AllWith (q .lines)) (sym (trace-is c m r)) (all-with (q .lines) (stepsOf q m));
       follow = subst (Follows m) (sym (trace-is c m r))
-          (chosen (λ (ss : List Stepped). Follows m (madeWith (q .lines) ss)) (eqb (runRefusal m (q .wanted)) 0) (steps-follow q (q .wanted) m) tt);
+          (chosen (λ (ss : List Stepped). Follows m (madeWith (q .lines) ss)) (eqb (runRefusal m q) 0) (steps-follow q (q .wanted) m) tt);
       last = ap (lastFrom m) (trace-is c m r) ∙ sym (ap (λ (o : Outcome). o .machine) (outcome-is c m r) ∙ ends-in-the-last q (begun m _) (stepsOf q m));
       count = ap length (trace-is c m r)
           ∙ sym (ap (λ (o : Outcome). o .answer .steps) (outcome-is c m r) ∙ counts-steps q (begun m _) (stepsOf q m) ∙ from-none _);

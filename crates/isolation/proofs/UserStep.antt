@@ -30,13 +30,13 @@ use Rattle.access.specs.declared.Read.the-variants.{Value, Fault}
 use Rattle.machine.specs.Machine.{Machine}
 use Rattle.look.specs.Look.{operandsOf, decoded, lookFrom}
 use Rattle.actions.specs.Actions.{processorAfter}
-use Rattle.step.specs.Step.{surroundingsOf, look, timerDone, memoryDone, done, told, stepOf}
+use Rattle.step.specs.Step.{surroundingsOf, look, timerDone, memoryDone, opcodeLooked, done, told, stepOf}
 use Rattle.isolation.specs.Frames.{frameAt, lowWord, ValidUserPage, Reached, ReachedWritable, TimerNotWritable, SameIn}
 use Rattle.isolation.specs.Trace.{inUserMode}
 use Rattle.isolation.specs.Claim.{Specials, Left, Held, Alike}
 use Rattle.decode.proofs.Outcomes.{Granted}
 use Rattle.isolation.proofs.UserActions.{UserAction, executed-user}
-use Rattle.isolation.proofs.SameLooks.{access-writable, byte-writable, look-same}
+use Rattle.isolation.proofs.SameLooks.{access-writable, byte-writable, look-same, opcode-same}
 use Rattle.isolation.proofs.SameStores.{store-same}
 
 -- ---- the look in User Mode
@@ -221,10 +221,15 @@ module _ (q : Processor) (m n : Machine) (alike : Alike q m n)
       look-same (m .processor) (m .timer) user (m .memory) (n .memory) apart apart′ own lines
       ∙ ap (λ (k : Machine). look k lines) n-is
 
-  -- the exception and the slot that a step tells
+  opcode-alike : opcodeLooked m lines ≡ opcodeLooked n lines
+  opcode-alike =
+      opcode-same (m .processor) (m .timer) user (m .memory) (n .memory) apart apart′ own lines
+      ∙ ap (λ (k : Machine). opcodeLooked k lines) n-is
+
+  -- the exception, the slot and the opcode that a step tells
   pub event-alike : stepOf m lines .event ≡ stepOf n lines .event
   unfolding stepOf
-  event-alike = ap told look-alike
+  event-alike = ap₂ told opcode-alike look-alike
 
   pub step-alike : Alike q (stepOf m lines .machine) (stepOf n lines .machine)
   unfolding stepOf

@@ -1,4 +1,4 @@
--- A list of runs, every step of it, and the answers that are compared (document 01, "Runs and views").
+-- A list of runs, every step of it, and the answers that are compared (document 01, "Runs and views"; document 02, job 3).
 use mathlib.Core.Bool.{Bool, true, cond}
 use mathlib.Core.List.{List, [], _∷_, _++_}
 use Prim.Native.Nat.{ℕ}
@@ -6,7 +6,8 @@ use Rattle.words.specs.Logic.{both}
 use Rattle.status.specs.Psw.{userMode}
 use Rattle.machine.specs.Machine.{Machine}
 use Rattle.step.specs.Step.{Stepped}
-use Rattle.run_loop.specs.Run.{Request, Answer, Outcome, stepsOf, runOf}
+use Rattle.refusals.specs.Request.{Request}
+use Rattle.run_loop.specs.Run.{Answer, Outcome, stepsOf, runOf}
 use Rattle.record_layout.specs.Record.{recordOf}
 use Rattle.run_calls.specs.Runs.{Called, machineIn, callSteps, callOf}
 
@@ -19,7 +20,7 @@ pub data EntryPoint : Type 0 where
   ByValue : EntryPoint
   Exported : EntryPoint
 
--- a run of the list: its entry point, and what it is asked
+-- a run of the list: its entry point, and what it is asked, its charges among it
 pub record Call : Type 0 where
   pub point : EntryPoint
   pub request : Request

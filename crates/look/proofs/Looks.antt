@@ -11,7 +11,7 @@ use Rattle.instructions.specs.Action.{Action, Exception}
 use Rattle.access.specs.declared.Read.{Read}
 use Rattle.access.specs.declared.Read.the-variants.{Value, Fault}
 use Rattle.access.proofs.Forgotten.{withoutSlot}
-use Rattle.look.specs.Look.{decoded, lookFrom}
+use Rattle.look.specs.Look.{decoded, lookFrom, noOpcode, opcodeRead, opcodeFrom}
 
 module _ (s : Surroundings) (registers : List ℕ) (pc lines : ℕ) where
   -- an interrupt that is due
@@ -34,3 +34,14 @@ executed-next s x y word next next′ e = ap (λ (n : ℕ). executed s (operands
 pub fetch-forgotten : (s : Surroundings) (registers : List ℕ) (pc : ℕ) (r : Read) → decoded s registers pc (withoutSlot r) ≡ decoded s registers pc r
 fetch-forgotten s registers pc (Value word slot) = refl
 fetch-forgotten s registers pc (Fault eid) = refl
+
+-- ---- the opcode of the word that is fetched
+
+module _ (s : Surroundings) (pc lines : ℕ) where
+  pub opcode-interrupt : (ch : ℕ) → ch ≡ channel (s .psw) lines → ch < 32 → noOpcode ≡ opcodeFrom s pc lines
+  unfolding opcodeFrom
+  opcode-interrupt ch e h = rw (← e) (simp (lt-ltb ch 32 h))
+
+  pub opcode-reads : (ch : ℕ) (r : Read) → ch ≡ channel (s .psw) lines → 32 ≤ ch → readFrom 4 s pc ≡ r → opcodeRead r ≡ opcodeFrom s pc lines
+  unfolding opcodeFrom
+  opcode-reads ch r e h f = rw (← e, f) (simp (le-ltb ch 32 h))

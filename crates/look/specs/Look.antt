@@ -5,7 +5,7 @@ use Prim.Native.Nat.{ℕ}
 use lib.Dec.{ltb}
 use Rattle.sums.specs.Sums.{sum}
 use Rattle.look.specs.Interrupt.{noChannel, channel}
-use Rattle.instructions.specs.Operands.{Surroundings, Operands, operandsIn}
+use Rattle.instructions.specs.Operands.{Surroundings, Operands, operandsIn, opcodeOf}
 use Rattle.access.specs.Reads.{readFrom}
 use Rattle.decode.specs.Table.{executed}
 use Rattle.instructions.specs.Action.{Action, Exception}
@@ -25,3 +25,15 @@ decoded s registers pc (Fault eid) = Exception eid pc
 unfoldable pub lookFrom : Surroundings → List ℕ → ℕ → ℕ → Action
 lookFrom s registers pc lines =
     cond (ltb (channel (s .psw) lines) noChannel) (Exception (channel (s .psw) lines) 0) (decoded s registers pc (readFrom 4 s pc))
+
+-- an opcode is below 64; this stands for none
+abbrev pub noOpcode : ℕ
+noOpcode = 64
+
+-- the opcode of the word that is fetched; `noOpcode` where an interrupt is accepted, or the fetch faults
+abbrev pub opcodeRead : Read → ℕ
+opcodeRead (Value word slot) = opcodeOf word
+opcodeRead (Fault eid) = noOpcode
+
+unfoldable pub opcodeFrom : Surroundings → ℕ → ℕ → ℕ
+opcodeFrom s pc lines = cond (ltb (channel (s .psw) lines) noChannel) noOpcode (opcodeRead (readFrom 4 s pc))

@@ -21,6 +21,7 @@ pub struct Outcome {
     pub steps: u32,
     pub eid: u32,
     pub slot: u32,
+    pub charge: u64,
     pub unchanged: bool,
     pub register: u32,
     pub replacement: u32,
@@ -47,18 +48,26 @@ fn run_of_kind(
     ram: &mut [u8],
     rom: &[u8],
     belt: &mut [u8],
+    charges: &[u8],
+    charged: bool,
     wanted: u64,
 ) -> Ran
-    ensures { λ r. ⌜ outcome (after (r .processor) (r .timer) ram rom belt) (r .refusal) (r .steps) (r .eid) (r .slot)
-        ≡ ran kind (before p timer ram rom belt) wanted ⌝ }
+    ensures { λ r. ⌜ outcome (after (r .processor) (r .timer) ram rom belt) (r .refusal) (r .steps) (r .eid) (r .slot) (r .charge)
+        ≡ ran kind charged (now (charges .entry)) (before p timer ram rom belt) wanted ⌝ }
 {
+    if charged {
+        if kind {
+            return runs::run_to_exception_charged(p, timer, ram, rom, belt, charges, wanted, 0);
+        }
+        return runs::run_charged(p, timer, ram, rom, belt, charges, wanted, 0);
+    }
     if kind {
         return runs::run_to_exception(p, timer, ram, rom, belt, wanted, 0);
     }
     runs::run(p, timer, ram, rom, belt, wanted, 0)
 }
 
-// A run with lines 0; `kind` says whether an accepted exception ends it. The copies are what RAM and belt are compared with after it.
+// A run with lines 0; `kind` says whether an accepted exception ends it, `charged` whether it is charged. The copies are what RAM and belt are compared with after it.
 pub fn run(
     kind: bool,
     p: Processor,
@@ -66,18 +75,25 @@ pub fn run(
     ram: &mut [u8],
     rom: &[u8],
     belt: &mut [u8],
+    charges: &[u8],
+    charged: bool,
     wanted: u64,
     ramcopy: &[u8],
     beltcopy: &[u8],
 ) -> Outcome
-    ensures answer { λ r. ⌜ answer (r .refusal) (r .steps) (r .eid) (r .slot) ≡ ran kind (before p timer ram rom belt) wanted .answer ⌝ }
+    ensures answer { λ r. ⌜ answer (r .refusal) (r .steps) (r .eid) (r .slot) (r .charge)
+        ≡ ran kind charged (now (charges .entry)) (before p timer ram rom belt) wanted .answer ⌝ }
     ensures unchanged { λ r. ⌜ r .unchanged
-        ≡ sameMachine p timer (now (ramcopy .entry)) (now (beltcopy .entry)) (ran kind (before p timer ram rom belt) wanted .machine) ⌝ }
-    ensures register { λ r. ⌜ r .register ≡ getD (ran kind (before p timer ram rom belt) wanted .machine .processor .registers) 1 0 ⌝ }
-    ensures replacement { λ r. ⌜ r .replacement ≡ ran kind (before p timer ram rom belt) wanted .machine .processor .replacement ⌝ }
-    ensures highs { λ r. ⌜ r .highs ≡ ran kind (before p timer ram rom belt) wanted .machine .processor .tlbhigh ⌝ }
+        ≡ sameMachine p timer (now (ramcopy .entry)) (now (beltcopy .entry))
+        (ran kind charged (now (charges .entry)) (before p timer ram rom belt) wanted .machine) ⌝ }
+    ensures register { λ r. ⌜ r .register
+        ≡ getD (ran kind charged (now (charges .entry)) (before p timer ram rom belt) wanted .machine .processor .registers) 1 0 ⌝ }
+    ensures replacement { λ r. ⌜ r .replacement
+        ≡ ran kind charged (now (charges .entry)) (before p timer ram rom belt) wanted .machine .processor .replacement ⌝ }
+    ensures highs { λ r. ⌜ r .highs
+        ≡ ran kind charged (now (charges .entry)) (before p timer ram rom belt) wanted .machine .processor .tlbhigh ⌝ }
 {
-    let ran = run_of_kind(kind, p, timer, ram, rom, belt, wanted);
+    let ran = run_of_kind(kind, p, timer, ram, rom, belt, charges, charged, wanted);
     let next = ran.processor;
     let ticked = ran.timer;
     let registers = next.registers;
@@ -89,6 +105,7 @@ pub fn run(
         steps: ran.steps,
         eid: ran.eid,
         slot: ran.slot,
+        charge: ran.charge,
         unchanged: state & memory,
         register: registers[1],
         replacement: next.replacement,

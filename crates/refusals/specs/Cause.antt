@@ -6,6 +6,9 @@ use mathlib.Core.Logic.{_⊎_}
 use Prim.Native.Nat.{ℕ, _*_, _≤_}
 use Rattle.words.specs.Logic.{Exactly}
 use Rattle.words.specs.Lists.{Every, Among}
+use lib.ListN.{length}
+use Rattle.charges.specs.Charges.{Charging, Uncharged, ChargedBy, chargesLength}
+use Rattle.refusals.specs.Request.{Request}
 use Rattle.refusals.specs.Refusal.{Test}
 
 abbrev pub numbersOf : List Test → List ℕ
@@ -43,3 +46,12 @@ BeltLength n = n ≡ 1024
 
 abbrev pub Steps : ℕ → Type 0
 Steps wanted = wanted ≤ 1000000
+
+-- a run without charging has no list
+abbrev pub ChargesLength : Charging → Type 0
+ChargesLength Uncharged = Unit {0}
+ChargesLength (ChargedBy s) = length s ≡ chargesLength
+
+-- what a run is asked can be had
+abbrev pub Asked : Request → Type 0
+Asked q = Steps (q .wanted) × ChargesLength (q .charging)

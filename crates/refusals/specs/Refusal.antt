@@ -1,4 +1,4 @@
--- Every refusal: its number, its cause, and its place in the order (document 01, "What the host lends" and "Refused calls"; document 02, job 1).
+-- Every refusal: its number, its cause, and its place in the order (document 01, "What the host lends" and "Refused calls"; document 02, jobs 1 and 3).
 use mathlib.Core.Bool.{Bool, cond}
 use mathlib.Core.List.{List, [], _∷_, _++_}
 use Prim.Native.Nat.{ℕ, _%_}
@@ -7,6 +7,8 @@ use lib.ListN.{length}
 use Rattle.words.specs.Logic.{both}
 use Rattle.memory.specs.Map.{Memory}
 use Rattle.machine.specs.Machine.{Machine, fitWith}
+use Rattle.charges.specs.Charges.{Charging, Uncharged, ChargedBy, chargesLength}
+use Rattle.refusals.specs.Request.{Request}
 
 -- ---- a call's tests
 
@@ -72,6 +74,11 @@ stepsTest wanted = test 7 (leb wanted mostSteps)
 abbrev pub frameTest : Bool → Test
 frameTest found = test 8 found
 
+-- 9: a list of charges has its one length; a run without charging has no such test
+abbrev pub chargesTests : Charging → List Test
+chargesTests Uncharged = []
+chargesTests (ChargedBy s) = test 9 (eqb (length s) chargesLength) ∷ []
+
 -- ---- what several calls begin with, and a run by value
 
 abbrev pub lengthsTests : ℕ → ℕ → ℕ → List Test
@@ -80,8 +87,12 @@ lengthsTests ram rom belt = ramTest ram ∷ romTest rom ∷ beltTest belt ∷ []
 abbrev pub memoryTests : Memory → List Test
 memoryTests m = lengthsTests (length (m .ram)) (length (m .rom)) (length (m .belt))
 
-abbrev pub runTests : Machine → ℕ → List Test
-runTests m wanted = memoryTests (m .memory) ++ (fitTest (fitWith (m .processor) (m .timer)) ∷ stepsTest wanted ∷ [])
+-- what is asked of a run, after all that is asked of its machine
+abbrev pub requestTests : ℕ → Charging → List Test
+requestTests wanted charging = stepsTest wanted ∷ chargesTests charging
 
-unfoldable pub runRefusal : Machine → ℕ → ℕ
-runRefusal m wanted = firstFailed (runTests m wanted)
+abbrev pub runTests : Machine → Request → List Test
+runTests m q = memoryTests (m .memory) ++ (fitTest (fitWith (m .processor) (m .timer)) ∷ requestTests (q .wanted) (q .charging))
+
+unfoldable pub runRefusal : Machine → Request → ℕ
+runRefusal m q = firstFailed (runTests m q)

@@ -4,7 +4,8 @@ use timer::Timer;
 ghost use mathlib.Core.List.{[], _∷_, _++_};
 ghost use mathlib.Core.Path.{_≡_};
 ghost use Rattle.machine.specs.Machine.{fitWith};
-ghost use Rattle.refusals.specs.Refusal.{firstFailed, pagesUpTo, ramAccepted, fitTest, stepsTest, lengthsTests};
+ghost use Rattle.refusals.specs.Refusal.{firstFailed, pagesUpTo, ramAccepted, fitTest, stepsTest, requestTests, lengthsTests};
+ghost use Rattle.charges.specs.Code.{chargingBy};
 
 // The numbers that a call answers, in the order of their tests.
 pub const ACCEPTED: u32 = 0;
@@ -26,6 +27,8 @@ pub const UNFIT: u32 = 6;
 pub const TOO_MANY_STEPS: u32 = 7;
 
 pub const NO_FRAME: u32 = 8;
+
+pub const CHARGES_LENGTH: u32 = 9;
 
 const MOST_RAM: usize = 536_870_912;
 
@@ -63,7 +66,7 @@ pub fn of_lengths(ram: usize, rom: usize, belt: usize) -> u32
     ACCEPTED
 }
 
-pub fn of_steps(wanted: u64) -> u32
+fn of_steps(wanted: u64) -> u32
     ensures { λ r. ⌜ r ≡ firstFailed (stepsTest wanted ∷ []) ⌝ }
 {
     if MOST_STEPS < wanted {
@@ -72,8 +75,35 @@ pub fn of_steps(wanted: u64) -> u32
     ACCEPTED
 }
 
-pub fn of_run(p: Processor, timer: Timer, ram: usize, rom: usize, belt: usize, wanted: u64) -> u32
-    ensures { λ r. ⌜ r ≡ firstFailed (lengthsTests ram rom belt ++ (fitTest (fitWith p timer) ∷ stepsTest wanted ∷ [])) ⌝ }
+// What is asked of a run, after all that is asked of its machine: causes 7 and 9.
+pub fn of_request(wanted: u64, charges: &[u8], charged: bool) -> u32
+    ensures { λ r. ⌜ r ≡ firstFailed (requestTests wanted (chargingBy charged (now (charges .entry)))) ⌝ }
+{
+    let steps = of_steps(wanted);
+    if steps != ACCEPTED {
+        return steps;
+    }
+    if charged {
+        if charges.len() != charges::LENGTH {
+            return CHARGES_LENGTH;
+        }
+        return ACCEPTED;
+    }
+    ACCEPTED
+}
+
+pub fn of_run(
+    p: Processor,
+    timer: Timer,
+    ram: usize,
+    rom: usize,
+    belt: usize,
+    wanted: u64,
+    charges: &[u8],
+    charged: bool,
+) -> u32
+    ensures { λ r. ⌜ r ≡ firstFailed (lengthsTests ram rom belt
+        ++ (fitTest (fitWith p timer) ∷ requestTests wanted (chargingBy charged (now (charges .entry))))) ⌝ }
 {
     let lengths = of_lengths(ram, rom, belt);
     if lengths != ACCEPTED {
@@ -82,5 +112,5 @@ pub fn of_run(p: Processor, timer: Timer, ram: usize, rom: usize, belt: usize, w
     if !machine::is_fit_with(p, timer) {
         return UNFIT;
     }
-    of_steps(wanted)
+    of_request(wanted, charges, charged)
 }

@@ -1,25 +1,19 @@
 -- The steps of a replay counted, by opcode and by exception.
 use mathlib.Core.Bool.{cond}
 use mathlib.Core.List.{List}
-use Prim.Native.Nat.{ℕ, _/_, _^_}
+use Prim.Native.Nat.{ℕ}
 use lib.Dec.{eqb}
 use denote.Ref.{now}
 use Rattle.words.specs.Identifiers.{noException}
 use Rattle.memory.specs.Lent.{Lent}
 use Rattle.access.specs.Reads.{readFrom}
-use Rattle.access.specs.declared.Read.{Read}
-use Rattle.access.specs.declared.Read.the-variants.{Value, Fault}
+use Rattle.look.specs.Look.{opcodeRead}
 use Rattle.machine.specs.Machine.{Machine}
 use Rattle.step.specs.Step.{surroundingsOf}
 use Rattle.replay.specs.Tally.{raisedAt}
 use Rattle.replay.specs.Agreement.{eidAfter}
 
--- the opcode of a word that was read, or 64
-abbrev pub opcodeRead : Read → ℕ
-opcodeRead (Value word slot) = word / 2 ^ 26
-opcodeRead (Fault eid) = 64
-
--- of the word at the PC
+-- the opcode of the word at the PC, or `noOpcode`
 unfoldable pub opcodeAt : Machine → ℕ
 opcodeAt m = opcodeRead (readFrom 4 (surroundingsOf m) (m .processor .pc))
 

@@ -1,4 +1,5 @@
--- What the exported runs do: the machine is read from its record and, unless the run is refused, written back (document 01, "Runs and views").
+-- What the exported runs do: the machine is read from its record and, unless the run is refused, written back (document 01, "Runs and views";
+-- document 02, job 3).
 use mathlib.Core.Bool.{cond}
 use mathlib.Core.List.{List, [], _∷_, _++_}
 use Prim.Native.Nat.{ℕ}
@@ -9,15 +10,16 @@ use Rattle.tlb.specs.Lookup.{noSlot}
 use Rattle.record_layout.specs.Record.{recordOf, processorOf, timerOf}
 use Rattle.machine.specs.Machine.{Machine}
 use Rattle.step.specs.Step.{Stepped}
-use Rattle.refusals.specs.Refusal.{Test, firstFailed, memoryTests, stepsTest}
+use Rattle.refusals.specs.Request.{Request}
+use Rattle.refusals.specs.Refusal.{Test, firstFailed, memoryTests, requestTests}
 use Rattle.record.specs.Calls.{machineTests}
-use Rattle.run_loop.specs.Run.{Request, Answer, answer, Outcome, begun, stepsFrom, runFrom}
+use Rattle.run_loop.specs.Run.{Answer, answer, Outcome, begun, stepsFrom, runFrom}
 
-abbrev pub callTests : List ℕ → Memory → ℕ → List Test
-callTests s m wanted = memoryTests m ++ (machineTests s ++ (stepsTest wanted ∷ []))
+abbrev pub callTests : List ℕ → Memory → Request → List Test
+callTests s m q = memoryTests m ++ (machineTests s ++ requestTests (q .wanted) (q .charging))
 
-unfoldable pub callRefusal : List ℕ → Memory → ℕ → ℕ
-callRefusal s m wanted = firstFailed (callTests s m wanted)
+unfoldable pub callRefusal : List ℕ → Memory → Request → ℕ
+callRefusal s m q = firstFailed (callTests s m q)
 
 -- the machine's buffer and the lent memory after a call, and its answer
 pub record Called : Type 0 where
@@ -25,8 +27,8 @@ pub record Called : Type 0 where
   pub memory : Memory
   pub answer : Answer
 
-abbrev pub called : List ℕ → Memory → ℕ → ℕ → ℕ → ℕ → Called
-called buffer m refusal steps eid slot = record { buffer = buffer; memory = m; answer = answer refusal steps eid slot }
+abbrev pub called : List ℕ → Memory → ℕ → ℕ → ℕ → ℕ → ℕ → Called
+called buffer m refusal steps eid slot charge = record { buffer = buffer; memory = m; answer = answer refusal steps eid slot charge }
 
 -- the machine that a record holds, with the lent memory
 abbrev pub machineIn : List ℕ → Memory → Machine
@@ -39,11 +41,11 @@ recorded o =
 
 -- the steps of a call: a refused one makes none
 unfoldable pub callSteps : Request → List ℕ → Memory → List Stepped
-callSteps q s m = cond (eqb (callRefusal s m (q .wanted)) 0) (stepsFrom q (q .wanted) (machineIn s m)) []
+callSteps q s m = cond (eqb (callRefusal s m q) 0) (stepsFrom q (q .wanted) (machineIn s m)) []
 
 -- a run of either kind; a refused one leaves the buffer as it was
 unfoldable pub callOf : Request → List ℕ → Memory → Called
 callOf q s m =
-    cond (eqb (callRefusal s m (q .wanted)) 0)
+    cond (eqb (callRefusal s m q) 0)
     (recorded (runFrom q (q .wanted) (begun (machineIn s m) 0)))
-    (called s m (callRefusal s m (q .wanted)) 0 noException noSlot)
+    (called s m (callRefusal s m q) 0 noException noSlot 0)

@@ -10,7 +10,8 @@ use Rattle.machine.specs.Machine.{Machine}
 use Rattle.step.specs.Step.{stepOf}
 use Rattle.step.proofs.IndexLaws.{step-moves}
 use Rattle.refusals.specs.Refusal.{runRefusal}
-use Rattle.run_loop.specs.Run.{Request, Outcome, begun, ends, runFrom, runOf, stepsFrom, countedAll}
+use Rattle.refusals.specs.Request.{Request}
+use Rattle.run_loop.specs.Run.{Outcome, begun, ends, runFrom, runOf, stepsFrom, countedAll}
 use Rattle.run_loop.proofs.Loop.{onward, first-step, run-is}
 
 module _ (q : Request) where
@@ -29,9 +30,9 @@ module _ (q : Request) where
   pub run-moves : (m : Machine) → Moved (m .processor .replacement) (runOf q m)
   unfolding replacementAfter
   run-moves m =
-      let none : Moved (m .processor .replacement) (begun m (runRefusal m (q .wanted))) = refl in
+      let none : Moved (m .processor .replacement) (begun m (runRefusal m q)) = refl in
       rw (run-is q m)
-      (chosen (Moved (m .processor .replacement)) (eqb (runRefusal m (q .wanted)) 0) (from-moves (m .processor .replacement) (q .wanted) (begun m 0) refl) none)
+      (chosen (Moved (m .processor .replacement)) (eqb (runRefusal m q) 0) (from-moves (m .processor .replacement) (q .wanted) (begun m 0) refl) none)
 
   -- from a fit machine it goes round in 4..31
   pub run-index : (m : Machine) → Fit (m .processor)

@@ -8,7 +8,8 @@ use Rattle.step.specs.Step.{stepOf}
 use Rattle.step.proofs.StepFit.{step-fit, step-timer-fits}
 use Rattle.step.proofs.StepRepresentable.{step-representable}
 use Rattle.refusals.specs.Refusal.{runRefusal}
-use Rattle.run_loop.specs.Run.{Request, Outcome, ends, begun, runFrom, runOf, stepsFrom, countedAll}
+use Rattle.refusals.specs.Request.{Request}
+use Rattle.run_loop.specs.Run.{Outcome, ends, begun, runFrom, runOf, stepsFrom, countedAll}
 use Rattle.run_loop.proofs.Loop.{onward, first-step, run-is}
 
 module _ (P : Machine → Type 0) (step : (m : Machine) (lines : ℕ) → P m → P (stepOf m lines .machine)) (q : Request) where
@@ -23,7 +24,7 @@ module _ (P : Machine → Type 0) (step : (m : Machine) (lines : ℕ) → P m �
       rw (first-step q n o) (chosen Ends (ends (q .kind) (stepOf (o .machine) (q .lines) .event .eid)) next (from-keeps n (onward q o) next))
 
   pub run-keeps : (m : Machine) → P m → Ends (runOf q m)
-  run-keeps m h = rw (run-is q m) (chosen Ends (eqb (runRefusal m (q .wanted)) 0) (from-keeps (q .wanted) (begun m 0) h) h)
+  run-keeps m h = rw (run-is q m) (chosen Ends (eqb (runRefusal m q) 0) (from-keeps (q .wanted) (begun m 0) h) h)
 
 -- a fit processor stays fit
 pub run-fit : (q : Request) (n : ℕ) (o : Outcome) → Fit (o .machine .processor) → Fit (runFrom q n o .machine .processor)

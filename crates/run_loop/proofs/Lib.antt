@@ -3,4 +3,5 @@ pub mod Loop
 mod Turn
 pub mod Kept
 pub mod Index
+pub mod Charged
 mod OneStep

@@ -11,7 +11,9 @@ use Rattle.words.proofs.Counts.{left, over}
 use Rattle.machine.specs.Machine.{Machine}
 use Rattle.step.specs.Step.{Stepped, stepOf}
 use Rattle.refusals.specs.Refusal.{runRefusal}
-use Rattle.run_loop.specs.Run.{Request, Outcome, outcome, ends, stepsFrom, stepsOf, counted, countedAll, begun, runOf, runFrom}
+use Rattle.charges.specs.Charges.{chargeOf}
+use Rattle.refusals.specs.Request.{Request}
+use Rattle.run_loop.specs.Run.{Outcome, outcome, ends, stepsFrom, stepsOf, counted, countedAll, begun, runOf, runFrom}
 
 -- ---- whether a step is the last
 
@@ -50,12 +52,12 @@ unfolding runFrom stepsFrom countedAll
 first-step q n o = by-step q (ends (q .kind) (stepOf (o .machine) (q .lines) .event .eid)) n (onward q o)
 
 pub run-is : (q : Request) (m : Machine)
-    → runOf q m ≡ cond (eqb (runRefusal m (q .wanted)) 0) (runFrom q (q .wanted) (begun m 0)) (begun m (runRefusal m (q .wanted)))
+    → runOf q m ≡ cond (eqb (runRefusal m q) 0) (runFrom q (q .wanted) (begun m 0)) (begun m (runRefusal m q))
 unfolding runOf stepsOf runFrom countedAll
 run-is q m = go (eqb r 0) refl
   where
     r : ℕ
-    r = runRefusal m (q .wanted)
+    r = runRefusal m q
 
     go : (t : Bool) → eqb r 0 ≡ t
         → countedAll q (begun m r) (cond t (stepsFrom q (q .wanted) m) []) ≡ cond t (countedAll q (begun m 0) (stepsFrom q (q .wanted) m)) (begun m r)
@@ -68,40 +70,42 @@ pub one-less : (n i : ℕ) → i < n → n - (i + 1) < n - i
 one-less n i h = omega arith
 
 -- the slot of an outcome counts where no step follows; the loop keeps it for the step that is the last of those wanted
-any-slot : (q : Request) (n : ℕ) (m : Machine) (made i j : ℕ) → runFrom q (suc n) (outcome m 0 made 32 i) ≡ runFrom q (suc n) (outcome m 0 made 32 j)
+any-slot : (q : Request) (n : ℕ) (m : Machine) (made i j total : ℕ)
+    → runFrom q (suc n) (outcome m 0 made 32 i total) ≡ runFrom q (suc n) (outcome m 0 made 32 j total)
 unfolding runFrom stepsFrom countedAll
-any-slot q n m made i j = refl
+any-slot q n m made i j total = refl
 
-last-slot : (q : Request) (made : ℕ) (m : Machine) (slot : ℕ) → made ≤ q .wanted
-    → runFrom q (q .wanted - made) (outcome m 0 made 32 slot) ≡ runFrom q (q .wanted - made) (outcome m 0 made 32 (cond (eqb made (q .wanted)) slot 33))
-last-slot q made m slot h = go (eqb made (q .wanted)) refl
+last-slot : (q : Request) (made : ℕ) (m : Machine) (slot total : ℕ) → made ≤ q .wanted → runFrom q (q .wanted - made) (outcome m 0 made 32 slot total)
+    ≡ runFrom q (q .wanted - made) (outcome m 0 made 32 (cond (eqb made (q .wanted)) slot 33) total)
+last-slot q made m slot total h = go (eqb made (q .wanted)) refl
   where
     go : (t : Bool) → eqb made (q .wanted) ≡ t
-        → runFrom q (q .wanted - made) (outcome m 0 made 32 slot) ≡ runFrom q (q .wanted - made) (outcome m 0 made 32 (cond t slot 33))
+        → runFrom q (q .wanted - made) (outcome m 0 made 32 slot total) ≡ runFrom q (q .wanted - made) (outcome m 0 made 32 (cond t slot 33) total)
     go true e = refl
     go false e =
         let more : made < q .wanted = let other = eqb-false made (q .wanted) e in omega arith in
-        rw (left (q .wanted) made more) (any-slot q (q .wanted - (made + 1)) m made slot 33)
+        rw (left (q .wanted) made more) (any-slot q (q .wanted - (made + 1)) m made slot 33 total)
 
 module _ (q : Request) (made : ℕ) (m : Machine) where
-  module _ (slot : ℕ) (n : Machine) (eid told : ℕ) (e : n ≡ stepOf m (q .lines) .machine) (f : eid ≡ stepOf m (q .lines) .event .eid)
-      (g : told ≡ stepOf m (q .lines) .event .slot) (more : made < q .wanted) where
-    turn : runFrom q (q .wanted - made) (outcome m 0 made 32 slot)
-        ≡ cond (ends (q .kind) eid) (outcome n 0 (made + 1) (cond (ends (q .kind) eid) eid 32) told)
-        (runFrom q (q .wanted - (made + 1)) (outcome n 0 (made + 1) (cond (ends (q .kind) eid) eid 32) told))
-    turn = rw (left (q .wanted) made more, add-one made, e, f, g) (first-step q (q .wanted - suc made) (outcome m 0 made 32 slot))
+  module _ (slot total : ℕ) (n : Machine) (eid told cost : ℕ) (e : n ≡ stepOf m (q .lines) .machine) (f : eid ≡ stepOf m (q .lines) .event .eid)
+      (g : told ≡ stepOf m (q .lines) .event .slot) (h : cost ≡ total + chargeOf (q .charging) (stepOf m (q .lines) .event .opcode))
+      (more : made < q .wanted) where
+    turn : runFrom q (q .wanted - made) (outcome m 0 made 32 slot total)
+        ≡ cond (ends (q .kind) eid) (outcome n 0 (made + 1) (cond (ends (q .kind) eid) eid 32) told cost)
+        (runFrom q (q .wanted - (made + 1)) (outcome n 0 (made + 1) (cond (ends (q .kind) eid) eid 32) told cost))
+    turn = rw (left (q .wanted) made more, add-one made, e, f, g, h) (first-step q (q .wanted - suc made) (outcome m 0 made 32 slot total))
 
-    pub run-more : ends (q .kind) eid ≡ false → runFrom q (q .wanted - made) (outcome m 0 made 32 slot)
-        ≡ runFrom q (q .wanted - (made + 1)) (outcome n 0 (made + 1) 32 (cond (eqb (made + 1) (q .wanted)) told 33))
-    run-more on = turn ∙ simp on (last-slot q (made + 1) n told (omega arith))
+    pub run-more : ends (q .kind) eid ≡ false → runFrom q (q .wanted - made) (outcome m 0 made 32 slot total)
+        ≡ runFrom q (q .wanted - (made + 1)) (outcome n 0 (made + 1) 32 (cond (eqb (made + 1) (q .wanted)) told 33) cost)
+    run-more on = turn ∙ simp on (last-slot q (made + 1) n told cost (omega arith))
 
-    pub run-stop : ends (q .kind) eid ≡ true → runFrom q (q .wanted - made) (outcome m 0 made 32 slot) ≡ outcome n 0 (made + 1) eid told
+    pub run-stop : ends (q .kind) eid ≡ true → runFrom q (q .wanted - made) (outcome m 0 made 32 slot total) ≡ outcome n 0 (made + 1) eid told cost
     run-stop last = turn ∙ simp last
 
-  pub run-end : (eid slot : ℕ) → eid ≡ 32 → q .wanted ≤ made
-      → runFrom q (q .wanted - made) (outcome m 0 made 32 slot) ≡ outcome m 0 made eid slot
+  pub run-end : (eid slot total : ℕ) → eid ≡ 32 → q .wanted ≤ made
+      → runFrom q (q .wanted - made) (outcome m 0 made 32 slot total) ≡ outcome m 0 made eid slot total
   unfolding runFrom stepsFrom countedAll
-  run-end eid slot none h = rw (over (q .wanted) made h, none)
+  run-end eid slot total none h = rw (over (q .wanted) made h, none)
 
   pub run-start : runFrom q (q .wanted) (begun m 0) ≡ runFrom q (q .wanted - 0) (begun m 0)
   run-start = ap (λ (n : ℕ). runFrom q n (begun m 0)) (omega arith)

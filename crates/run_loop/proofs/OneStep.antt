@@ -9,7 +9,9 @@ use Rattle.instructions.specs.Action.{Action, Write, Store, System, Exception}
 use Rattle.machine.specs.Machine.{Machine}
 use Rattle.step.specs.Step.{look, eidOf, stepped, stepOf}
 use Rattle.step.proofs.Named.{named-below}
-use Rattle.run_loop.specs.Run.{toException, request, Outcome, outcome, ends, begun, runFrom}
+use Rattle.charges.specs.Charges.{Uncharged}
+use Rattle.refusals.specs.Request.{toException, Request, request}
+use Rattle.run_loop.specs.Run.{Outcome, outcome, ends, begun, runFrom}
 use Rattle.run_loop.proofs.Loop.{no-step, onward, first-step}
 
 module _ (m : Machine) (lines : ℕ) where
@@ -27,17 +29,21 @@ module _ (m : Machine) (lines : ℕ) where
       go (System i) e k = refl
       go (Exception number address) e k = absurd (omega (arith, named-below m lines number address e))
 
-  pub one-step : (n : Machine) (r k number slot : ℕ) → outcome n r k number slot ≡ runFrom (request toException 1 lines) 1 (begun m 0)
-      → stepped n number slot ≡ stepOf m lines
+  abbrev single : Request
+  single = request toException 1 lines Uncharged
+
+  pub one-step : (n : Machine) (r k number slot charge : ℕ) → outcome n r k number slot charge ≡ runFrom single 1 (begun m 0)
+      → stepped n number slot (stepOf m lines .event .opcode) ≡ stepOf m lines
   unfolding ends
-  one-step n r k number slot e = λ i. stepped (same i .machine) (same i .answer .eid) (same i .answer .slot)
+  one-step n r k number slot charge e =
+      λ i. stepped (same i .machine) (same i .answer .eid) (same i .answer .slot) (stepOf m lines .event .opcode)
     where
       known : (t : Bool) → ends toException eid ≡ t → cond t eid 32 ≡ eid
       known true h = refl
       known false h = sym (none-is-32 (ltb-false eid 32 h))
 
-      same : outcome n r k number slot ≡ outcome (stepOf m lines .machine) 0 1 eid (stepOf m lines .event .slot)
+      same : outcome n r k number slot charge ≡ outcome (stepOf m lines .machine) 0 1 eid (stepOf m lines .event .slot) 0
       same =
-          e ∙ first-step (request toException 1 lines) 0 (begun m 0)
-          ∙ chosen (λ (o : Outcome). o ≡ onward (request toException 1 lines) (begun m 0)) (ends toException eid) refl (no-step _ _)
-          ∙ ap (λ (j : ℕ). outcome (stepOf m lines .machine) 0 1 j (stepOf m lines .event .slot)) (known (ends toException eid) refl)
+          e ∙ first-step single 0 (begun m 0)
+          ∙ chosen (λ (o : Outcome). o ≡ onward single (begun m 0)) (ends toException eid) refl (no-step _ _)
+          ∙ ap (λ (j : ℕ). outcome (stepOf m lines .machine) 0 1 j (stepOf m lines .event .slot) 0) (known (ends toException eid) refl)

@@ -2,7 +2,7 @@
 use mathlib.Core.Path.{_≡_, refl, ap, sym, subst, _∙_}
 use mathlib.Core.Bool.{Bool, true, false, cond}
 use mathlib.Core.List.{List, [], _∷_}
-use Prim.Native.Nat.{ℕ, zero, suc, _+_, _-_, _%_, _<_}
+use Prim.Native.Nat.{ℕ, zero, suc, _+_, _*_, _-_, _%_, _^_, _≤_, _<_}
 use native.Mathlib.Numerals.{add-one}
 use native.Mathlib.Omega.{arith}
 use lib.Dec.{leb, eqb}
@@ -21,12 +21,14 @@ use Rattle.actions.specs.Actions.{processorAfter}
 use Rattle.tlb.specs.Lookup.{pageOf, noSlot, lookup, replacementAfter}
 use Rattle.timer.specs.Timer.{linesWith}
 use Rattle.machine.specs.Machine.{Machine}
-use Rattle.look.specs.Look.{lookFrom}
-use Rattle.step.specs.Step.{surroundingsOf, look, done, eidOf, slotOf, stepOf}
-use Rattle.step.proofs.Looks.{step-done, step-eid, step-slot}
+use Rattle.look.specs.Look.{lookFrom, opcodeFrom}
+use Rattle.charges.specs.Charges.{chargeOf}
+use Rattle.refusals.specs.Request.{Request}
+use Rattle.step.specs.Step.{surroundingsOf, look, opcodeLooked, done, eidOf, slotOf, completedOf, stepOf}
+use Rattle.step.proofs.Looks.{step-done, step-eid, step-slot, step-opcode}
 use Rattle.step.proofs.Named.{named-below}
 use Rattle.step.proofs.IndexLaws.{action-leaves}
-use Rattle.run_loop.specs.Run.{indexed, Request, outcome, ends, begun, runFrom}
+use Rattle.run_loop.specs.Run.{indexed, outcome, ends, begun, runFrom}
 use Rattle.run_loop.proofs.Loop.{exception-ends, run-more, run-stop}
 
 -- ---- registers
@@ -102,23 +104,32 @@ followed-serves highs last page i address e f = λ below. f ∙ ap (lookup highs
 -- ---- the run
 
 -- what holds before each turn: of the machine that the run began with, of the one that it has come to, and of the entry found last
-pub record Going (q : Request) (began m : Machine) (last : Found) (steps eid slot : ℕ) : Type 0 where
+pub record Going (q : Request) (began m : Machine) (last : Found) (steps eid slot total : ℕ) : Type 0 where
   pub ram : length (m .memory .ram) ≡ length (began .memory .ram)
   pub belt : length (m .memory .belt) ≡ length (began .memory .belt)
   pub none : eid ≡ 32
   -- no step but the last tells its slot
   pub untold : steps < q .wanted → slot ≡ noSlot
   pub found : last .index ≡ lookup (m .processor .tlbhigh) (last .page)
-  pub rest : runFrom q (q .wanted) (begun began 0) ≡ runFrom q (q .wanted - steps) (outcome m 0 steps 32 slot)
+  pub rest : runFrom q (q .wanted) (begun began 0) ≡ runFrom q (q .wanted - steps) (outcome m 0 steps 32 slot total)
+  -- so the sum fits in 64 bits
+  pub within : total ≤ steps * 65535
+
+pub room : {q : Request} {began m : Machine} {last : Found} {steps eid slot total : ℕ} → Going q began m last steps eid slot total → steps < q .wanted
+    → q .wanted < 2 ^ 32 → total < 2 ^ 63
+room g more fits = omega (arith, g .within)
 
 -- the slot that the loop keeps after a step more: a step without a data access leaves it
-pub still-none : {q : Request} {began m : Machine} {last : Found} {steps eid slot : ℕ} → Going q began m last steps eid slot → steps < q .wanted
+pub still-none : {q : Request} {began m : Machine} {last : Found} {steps eid slot total : ℕ} → Going q began m last steps eid slot total → steps < q .wanted
     → slot ≡ cond (eqb (steps + 1) (q .wanted)) noSlot noSlot
 still-none {q} {steps = steps} g more = g .untold more ∙ chosen (λ (n : ℕ). noSlot ≡ n) (eqb (steps + 1) (q .wanted)) refl refl
 
-module _ {q : Request} {began m : Machine} {last : Found} {steps eid slot : ℕ} (g : Going q began m last steps eid slot) (more : steps < q .wanted)
+module _ {q : Request} {began m : Machine} {last : Found} {steps eid slot total : ℕ} (g : Going q began m last steps eid slot total)
+    (more : steps < q .wanted)
     {seen : ℕ} (s : seen ≡ linesWith (m .timer) (q .lines))
     {a b : Action} (e : b ≡ lookFrom (surroundingsOf m) (m .processor .registers) (m .processor .pc) seen) (told : b ≡ a)
+    {opcode : ℕ} (o : opcode ≡ opcodeFrom (surroundingsOf m) (m .processor .pc) seen)
+    {total₁ : ℕ} (sum : (total₁ ≡ total + chargeOf (q .charging) (completedOf opcode a)) × (total₁ ≤ total + 65535))
     {n : Machine} (after : n ≡ done m a) where
   looked : look m (q .lines) ≡ a
   unfolding look
@@ -133,11 +144,16 @@ module _ {q : Request} {began m : Machine} {last : Found} {steps eid slot : ℕ}
   told-of : slotOf a ≡ stepOf m (q .lines) .event .slot
   told-of = sym (step-slot m (q .lines) a looked)
 
+  charged : total₁ ≡ total + chargeOf (q .charging) (stepOf m (q .lines) .event .opcode)
+  charged =
+      let same : opcode ≡ opcodeLooked m (q .lines) = o ∙ ap (opcodeFrom (surroundingsOf m) (m .processor .pc)) s in
+      sum .0 ∙ ap (λ (k : ℕ). total + chargeOf (q .charging) k) (ap (λ (k : ℕ). completedOf k a) same ∙ sym (step-opcode m (q .lines) a looked))
+
   -- the run goes on
   pub again : ends (q .kind) (eidOf a) ≡ false
       → length (n .memory .ram) ≡ length (m .memory .ram) → length (n .memory .belt) ≡ length (m .memory .belt)
       → {last₁ : Found} → last₁ .index ≡ lookup (n .processor .tlbhigh) (last₁ .page)
-      → {slot₁ : ℕ} → slot₁ ≡ cond (eqb (steps + 1) (q .wanted)) (slotOf a) noSlot → Going q began n last₁ (steps + 1) eid slot₁
+      → {slot₁ : ℕ} → slot₁ ≡ cond (eqb (steps + 1) (q .wanted)) (slotOf a) noSlot → Going q began n last₁ (steps + 1) eid slot₁ total₁
   again on ram belt found {slot₁} kept =
       record {
         ram = ram ∙ g .ram;
@@ -145,15 +161,16 @@ module _ {q : Request} {began m : Machine} {last : Found} {steps eid slot : ℕ}
         none = g .none;
         found = found;
         untold = λ more₁. kept ∙ simp (ne-eqb (steps + 1) (q .wanted) (λ last. omega arith));
-        rest = g .rest ∙ run-more q steps m slot n (eidOf a) (slotOf a) stepped-to named told-of more on
-            ∙ ap (λ (i : ℕ). runFrom q (q .wanted - (steps + 1)) (outcome n 0 (steps + 1) 32 i)) (sym kept);
+        rest = g .rest ∙ run-more q steps m slot total n (eidOf a) (slotOf a) total₁ stepped-to named told-of charged more on
+            ∙ ap (λ (i : ℕ). runFrom q (q .wanted - (steps + 1)) (outcome n 0 (steps + 1) 32 i total₁)) (sym kept);
+        within = omega (arith, g .within, sum .1);
       }
 
   -- the run ends: an exception that was named has a number below 32, and no slot
   pub stops : (number address : ℕ) → a ≡ Exception number address → q .kind ≡ true
-      → outcome n 0 (steps + 1) (eidOf a) slot ≡ runFrom q (q .wanted) (begun began 0)
+      → outcome n 0 (steps + 1) (eidOf a) slot total₁ ≡ runFrom q (q .wanted) (begun began 0)
   stops number address f on =
       let below : number < 32 = omega (arith, named-below m (q .lines) number address (looked ∙ f)) in
-      ap (outcome n 0 (steps + 1) (eidOf a)) (g .untold more ∙ sym (ap slotOf f))
-      ∙ sym (g .rest ∙ run-stop q steps m slot n (eidOf a) (slotOf a) stepped-to named told-of more
+      ap (λ (i : ℕ). outcome n 0 (steps + 1) (eidOf a) i total₁) (g .untold more ∙ sym (ap slotOf f))
+      ∙ sym (g .rest ∙ run-stop q steps m slot total n (eidOf a) (slotOf a) total₁ stepped-to named told-of charged more
       (exception-ends (q .kind) (eidOf a) on (subst (λ (b : Action). eidOf b < 32) (sym f) below)))

@@ -1,8 +1,8 @@
--- The two kinds of run (document 01, "Runs and views" and "Refused calls"; document 02, job 2): the steps that a run makes, and its answer
+-- The two kinds of run (document 01, "Runs and views" and "Refused calls"; document 02, jobs 2 and 3): the steps that a run makes, and its answer
 -- counted from them.
 use mathlib.Core.Bool.{Bool, true, false, cond}
 use mathlib.Core.List.{List, [], _∷_}
-use Prim.Native.Nat.{ℕ, zero, suc}
+use Prim.Native.Nat.{ℕ, zero, suc, _+_}
 use lib.Dec.{ltb, eqb}
 use Rattle.words.specs.Logic.{both}
 use Rattle.tlb.specs.Lookup.{noSlot, replacementAfter}
@@ -11,45 +11,31 @@ use Rattle.processor.specs.State.{withReplacement}
 use Rattle.machine.specs.Machine.{Machine}
 use Rattle.words.specs.Identifiers.{noException}
 use Rattle.step.specs.Step.{Stepped, stepOf}
+use Rattle.charges.specs.Charges.{chargeOf}
+use Rattle.refusals.specs.Request.{Request}
 use Rattle.refusals.specs.Refusal.{runRefusal}
-
--- ---- what a run is asked
-
--- the kinds: whether an accepted exception ends the run
-abbrev pub plain : Bool
-plain = false
-
-abbrev pub toException : Bool
-toException = true
-
--- the kind, the wanted steps, and the interrupt lines, which are held for the run
-pub record Request : Type 0 where
-  pub kind : Bool
-  pub wanted : ℕ
-  pub lines : ℕ
-
-abbrev pub request : Bool → ℕ → ℕ → Request
-request kind wanted lines = record { kind = kind; wanted = wanted; lines = lines }
 
 -- ---- what it answers
 
--- the refusal or 0, the steps made, the exception that ended the run, or `noException`, and the slot of the last step, or `noSlot` where none was made
+-- the refusal or 0, the steps made, the exception that ended the run, or `noException`, the slot of the last step, or `noSlot` where none was made, and
+-- the charge of all steps
 pub record Answer : Type 0 where
   pub refusal : ℕ
   pub steps : ℕ
   pub eid : ℕ
   pub slot : ℕ
+  pub charge : ℕ
 
-abbrev pub answer : ℕ → ℕ → ℕ → ℕ → Answer
-answer refusal steps eid slot = record { refusal = refusal; steps = steps; eid = eid; slot = slot }
+abbrev pub answer : ℕ → ℕ → ℕ → ℕ → ℕ → Answer
+answer refusal steps eid slot charge = record { refusal = refusal; steps = steps; eid = eid; slot = slot; charge = charge }
 
 -- the machine after a run, and its answer
 pub record Outcome : Type 0 where
   pub machine : Machine
   pub answer : Answer
 
-abbrev pub outcome : Machine → ℕ → ℕ → ℕ → ℕ → Outcome
-outcome m refusal steps eid slot = record { machine = m; answer = answer refusal steps eid slot }
+abbrev pub outcome : Machine → ℕ → ℕ → ℕ → ℕ → ℕ → Outcome
+outcome m refusal steps eid slot charge = record { machine = m; answer = answer refusal steps eid slot charge }
 
 -- ---- its steps
 
@@ -66,7 +52,7 @@ stepsFrom q (suc n) m =
 
 -- a refused run makes none
 unfoldable pub stepsOf : Request → Machine → List Stepped
-stepsOf q m = cond (eqb (runRefusal m (q .wanted)) 0) (stepsFrom q (q .wanted) m) []
+stepsOf q m = cond (eqb (runRefusal m q) 0) (stepsFrom q (q .wanted) m) []
 
 -- ---- the run
 
@@ -74,7 +60,7 @@ stepsOf q m = cond (eqb (runRefusal m (q .wanted)) 0) (stepsFrom q (q .wanted) m
 abbrev pub counted : Request → Outcome → Stepped → Outcome
 counted q o s =
     outcome (s .machine) (o .answer .refusal) (suc (o .answer .steps)) (cond (ends (q .kind) (s .event .eid)) (s .event .eid) noException)
-    (s .event .slot)
+    (s .event .slot) (o .answer .charge + chargeOf (q .charging) (s .event .opcode))
 
 unfoldable pub countedAll : Request → Outcome → List Stepped → Outcome
 countedAll q o [] = o
@@ -82,10 +68,10 @@ countedAll q o (s ∷ ss) = countedAll q (counted q o s) ss
 
 -- what a run answers before any step, by its refusal or 0; for a refused one there are no others
 abbrev pub begun : Machine → ℕ → Outcome
-begun m refusal = outcome m refusal 0 noException noSlot
+begun m refusal = outcome m refusal 0 noException noSlot 0
 
 unfoldable pub runOf : Request → Machine → Outcome
-runOf q m = countedAll q (begun m (runRefusal m (q .wanted))) (stepsOf q m)
+runOf q m = countedAll q (begun m (runRefusal m q)) (stepsOf q m)
 
 -- ---- as the loop makes it
 

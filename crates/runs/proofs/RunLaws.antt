@@ -14,7 +14,9 @@ use Rattle.words.proofs.Cases.{chosen, case}
 use Rattle.tlb.specs.Lookup.{noSlot}
 use Rattle.refusals.specs.Refusal.{runRefusal}
 use Rattle.run_loop.proofs.Loop.{no-step, onward, first-step, run-is}
-use Rattle.run_loop.specs.Run.{plain, toException, Request, request, Outcome, outcome, ends, begun, runFrom, runOf, stateAfter}
+use Rattle.charges.specs.Charges.{Charging, chargeOf}
+use Rattle.refusals.specs.Request.{plain, toException, Request, request}
+use Rattle.run_loop.specs.Run.{Outcome, outcome, ends, begun, runFrom, runOf, stateAfter}
 
 -- ---- a plain run
 
@@ -23,17 +25,22 @@ unfoldable pub slotAfter : ℕ → ℕ → Machine → ℕ → ℕ
 slotAfter zero slot m lines = slot
 slotAfter (suc n) slot m lines = slotAfter n (stepOf m lines .event .slot) (stepOf m lines .machine) lines
 
-module _ (wanted lines : ℕ) where
+module _ (wanted lines : ℕ) (c : Charging) where
   abbrev asked : Request
-  asked = request plain wanted lines
+  asked = request plain wanted lines c
 
-  pub plain-makes-the-steps : (n made slot : ℕ) (m : Machine)
-      → runFrom asked n (outcome m 0 made 32 slot) ≡ outcome (stateAfter n m lines) 0 (made + n) 32 (slotAfter n slot m lines)
-  unfolding stateAfter slotAfter ends
-  plain-makes-the-steps zero made slot m = no-step asked _ ∙ ap (λ (k : ℕ). outcome m 0 k 32 slot) (sym (add-zero made))
-  plain-makes-the-steps (suc n) made slot m =
-      first-step asked n (outcome m 0 made 32 slot) ∙ plain-makes-the-steps n (suc made) (stepOf m lines .event .slot) (stepOf m lines .machine)
-      ∙ ap (λ (k : ℕ). outcome (stateAfter n (stepOf m lines .machine) lines) 0 k 32 (slotAfter (suc n) slot m lines))
+  -- a sum with what n steps cost
+  unfoldable pub chargeAfter : ℕ → ℕ → Machine → ℕ
+  chargeAfter zero total m = total
+  chargeAfter (suc n) total m = chargeAfter n (total + chargeOf c (stepOf m lines .event .opcode)) (stepOf m lines .machine)
+
+  pub plain-makes-the-steps : (n made slot total : ℕ) (m : Machine) → runFrom asked n (outcome m 0 made 32 slot total)
+      ≡ outcome (stateAfter n m lines) 0 (made + n) 32 (slotAfter n slot m lines) (chargeAfter n total m)
+  unfolding stateAfter slotAfter chargeAfter ends
+  plain-makes-the-steps zero made slot total m = no-step asked _ ∙ ap (λ (k : ℕ). outcome m 0 k 32 slot total) (sym (add-zero made))
+  plain-makes-the-steps (suc n) made slot total m =
+      first-step asked n (outcome m 0 made 32 slot total) ∙ plain-makes-the-steps n (suc made) (stepOf m lines .event .slot) _ (stepOf m lines .machine)
+      ∙ ap (λ (k : ℕ). outcome (stateAfter n (stepOf m lines .machine) lines) 0 k 32 (slotAfter (suc n) slot m lines) (chargeAfter (suc n) total m))
       (suc-add made n ∙ sym (add-suc made n))
 
 -- ---- either kind
@@ -82,15 +89,15 @@ module _ (q : Request) where
   pub run-slot : (m : Machine) → LastSlot m (runOf q m)
   run-slot m =
       subst (LastSlot m) (sym (run-is q m))
-      (chosen (LastSlot m) (eqb (runRefusal m (q .wanted)) 0)
+      (chosen (LastSlot m) (eqb (runRefusal m q) 0)
       (⊎-elim (λ t. inl t) (λ t. let (k, steps, same) = t in inr (k, omega (arith, steps), same)) (slot-of-the-last (q .wanted) (begun m 0)))
       (inl (refl, refl)))
 
 -- ---- a run to exception
 
-module _ (wanted lines : ℕ) where
+module _ (wanted lines : ℕ) (c : Charging) where
   abbrev sought : Request
-  sought = request toException wanted lines
+  sought = request toException wanted lines c
 
   abbrev told : Machine → ℕ
   told m = stepOf m lines .event .eid

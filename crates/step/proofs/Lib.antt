@@ -5,6 +5,7 @@ pub mod TimerCases
 pub mod StarredCases
 pub mod StepLaws
 pub mod SlotLaws
+pub mod OpcodeLaws
 pub mod PcLaws
 pub mod StepFit
 pub mod RepresentableKept

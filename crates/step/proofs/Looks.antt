@@ -6,7 +6,7 @@ use Rattle.memory.specs.Map.{Memory}
 use Rattle.processor.specs.declared.Processor.{Processor}
 use Rattle.instructions.specs.Action.{Action}
 use Rattle.machine.specs.Machine.{Machine}
-use Rattle.step.specs.Step.{look, done, eidOf, slotOf, stepOf}
+use Rattle.step.specs.Step.{look, opcodeLooked, done, eidOf, slotOf, completedOf, stepOf}
 
 module _ (m : Machine) (lines : ℕ) (a : Action) (e : look m lines ≡ a) where
   pub step-done : stepOf m lines .machine ≡ done m a
@@ -20,6 +20,10 @@ module _ (m : Machine) (lines : ℕ) (a : Action) (e : look m lines ≡ a) where
   pub step-slot : stepOf m lines .event .slot ≡ slotOf a
   unfolding stepOf
   step-slot = ap slotOf e
+
+  pub step-opcode : stepOf m lines .event .opcode ≡ completedOf (opcodeLooked m lines) a
+  unfolding stepOf
+  step-opcode = ap (completedOf (opcodeLooked m lines)) e
 
 -- the three parts of a machine
 pub joined : {p q : Processor} {t u : Timer} {m n : Memory} → p ≡ q → t ≡ u → m ≡ n

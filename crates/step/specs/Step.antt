@@ -1,5 +1,5 @@
 -- One step (document 01, "One step"; manual, 3.2): a look, which changes nothing and names an action, then the action, then what every step does
--- (document 02, jobs 1 and 4), and what the step tells (job 2).
+-- (document 02, jobs 1 and 4), and what the step tells (jobs 2 and 3).
 use Prim.Native.Nat.{ℕ}
 use Rattle.memory.specs.Map.{Memory}
 use Rattle.memory.specs.Access.{accessWidth, memoryAfter, timerAfter}
@@ -10,7 +10,7 @@ use Rattle.tlb.specs.Lookup.{noSlot}
 use Rattle.processor.specs.Tlb.{indexMoved}
 use Rattle.instructions.specs.Operands.{Surroundings, surroundings}
 use Rattle.instructions.specs.Action.{Action, Write, Store, System, Exception}
-use Rattle.look.specs.Look.{lookFrom}
+use Rattle.look.specs.Look.{lookFrom, noOpcode, opcodeFrom}
 use Rattle.actions.specs.Actions.{processorAfter}
 use Rattle.machine.specs.Machine.{Machine}
 
@@ -22,6 +22,10 @@ surroundingsOf m = surroundings (m .processor .psw) (m .processor .tlbhigh) (m .
 -- with the host's interrupt lines, and the timer's as it was before the step
 unfoldable pub look : Machine → ℕ → Action
 look m lines = lookFrom (surroundingsOf m) (m .processor .registers) (m .processor .pc) (linesWith (m .timer) lines)
+
+-- the opcode of the word that the look fetches, or `noOpcode`
+abbrev pub opcodeLooked : Machine → ℕ → ℕ
+opcodeLooked m lines = opcodeFrom (surroundingsOf m) (m .processor .pc) (linesWith (m .timer) lines)
 
 -- ---- the action
 
@@ -51,6 +55,13 @@ slotOf (Store width physical v slot) = slot
 slotOf (System i) = noSlot
 slotOf (Exception eid address) = noSlot
 
+-- the opcode of the instruction that completes, by that of the word fetched, or `noOpcode`: where an exception is accepted, none completes
+abbrev pub completedOf : ℕ → Action → ℕ
+completedOf opcode (Write n v next slot) = opcode
+completedOf opcode (Store width physical v slot) = opcode
+completedOf opcode (System i) = opcode
+completedOf opcode (Exception eid address) = noOpcode
+
 abbrev pub acted : Machine → Action → Machine
 acted m a =
     record {
@@ -68,13 +79,15 @@ done m a = ended (acted m a)
 
 -- ---- the step
 
--- what a step tells: the exception that it accepted, or `noException`, and the slot of its data access, or `noSlot`
+-- what a step tells: the exception that it accepted, or `noException`; the slot of its data access, or `noSlot`; and the opcode of its completed
+-- instruction, or `noOpcode`
 pub record Event : Type 0 where
   pub eid : ℕ
   pub slot : ℕ
+  pub opcode : ℕ
 
-abbrev pub told : Action → Event
-told a = record { eid = eidOf a; slot = slotOf a }
+abbrev pub told : ℕ → Action → Event
+told opcode a = record { eid = eidOf a; slot = slotOf a; opcode = completedOf opcode a }
 
 -- the machine after a step, and the step's event
 pub record Stepped : Type 0 where
@@ -82,8 +95,8 @@ pub record Stepped : Type 0 where
   pub event : Event
 
 unfoldable pub stepOf : Machine → ℕ → Stepped
-stepOf m lines = record { machine = done m (look m lines); event = told (look m lines) }
+stepOf m lines = record { machine = done m (look m lines); event = told (opcodeLooked m lines) (look m lines) }
 
 -- as a contract names it, of what the code answers
-abbrev pub stepped : Machine → ℕ → ℕ → Stepped
-stepped m eid slot = record { machine = m; event = record { eid = eid; slot = slot } }
+abbrev pub stepped : Machine → ℕ → ℕ → ℕ → Stepped
+stepped m eid slot opcode = record { machine = m; event = record { eid = eid; slot = slot; opcode = opcode } }

@@ -1,6 +1,7 @@
 //! Damaged machines, records, lengths and counts, several at once.
 
 use crate::bench::{Bench, Counts, Difference};
+use crate::charges;
 use crate::runs::{memory, too_many};
 use crate::world::{Call, Lent, Run, World};
 use eco32_reference::record::{CONTROL_AT, KIND_BYTES, REPLACEMENT_AT};
@@ -36,8 +37,10 @@ pub fn never_kept() -> Vec<NeverKept> {
     words
 }
 
+/// The cause that the record buffer has another length.
+const BUFFER: u32 = 1 << 7;
 /// The cause that the machine has the length from before the timer.
-const OLD: u32 = 1 << 8;
+const OLD: u32 = 1 << 9;
 
 /// Sets one bit of a record's word, counted from the lowest.
 pub fn set_bit(record: &mut [u8], at: usize, bit: u32) {
@@ -88,8 +91,8 @@ fn wrong_length(numbers: &mut Numbers) -> usize {
     numbers.pick(&[0, 1, 1024, 4095, 4097, 6144, 8191, 8193, any])
 }
 
-/// Damages a world as bits 0 to 5 of `causes` say: refusals 1 to 6. With OLD
-/// the machine loses its timer first.
+/// Damages a world as bits 0 to 5 and 8 of `causes` say: refusals 1 to 6 and 9.
+/// With OLD the machine loses its timer first.
 fn damage(world: &mut World, causes: u32, numbers: &mut Numbers) {
     if causes & 1 != 0 {
         world.ram.resize(wrong_length(numbers), 0x11);
@@ -105,11 +108,19 @@ fn damage(world: &mut World, causes: u32, numbers: &mut Numbers) {
         world.machine.resize(OLD_RECORD_LENGTH, 0);
     }
     damage_record(&mut world.machine, causes >> 3, numbers);
+    if causes & 1 << 8 != 0 {
+        let length = charges::wrong_length(numbers);
+        world.charges.resize(length, 0x44);
+    }
+    if causes & BUFFER != 0 {
+        let length = numbers.pick(&[0, 413, 414, 423, 425, 1000]);
+        world.record.resize(length, 0x55);
+    }
 }
 
 /// The refusal of a call on a world with these causes; bit 6 is too many
-/// steps, bit 7 a record buffer of another length, and OLD a machine that may
-/// be read but not written.
+/// steps, and OLD a machine that may be read but not written. Only a charged
+/// run takes a list of charges.
 fn first_refusal(call: Call, causes: u32) -> u32 {
     let written = matches!(call, Call::Reset | Call::Run(_));
     let causes = match causes & OLD {
@@ -119,11 +130,12 @@ fn first_refusal(call: Call, causes: u32) -> u32 {
     let taken: &[u32] = match call {
         Call::Reset => &[4],
         Call::ReadRecord | Call::WriteRecord => &[4, 5, 6],
+        Call::Run(run) if run.charged => &[1, 2, 3, 4, 5, 6, 7, 9],
         Call::Run(_) => &[1, 2, 3, 4, 5, 6, 7],
         Call::PageView(_) => &[1, 4, 5, 6],
     };
     let record_buffer = matches!(call, Call::ReadRecord | Call::WriteRecord);
-    if record_buffer && causes & 0x80 != 0 {
+    if record_buffer && causes & BUFFER != 0 {
         return 4;
     }
     let holds = |refusal: &&u32| causes >> (*refusal - 1) & 1 == 1;
@@ -134,17 +146,12 @@ fn first_refusal(call: Call, causes: u32) -> u32 {
 pub fn case(numbers: &mut Numbers, counts: &mut Counts) -> Result<(), Difference> {
     let scene = machines::machine(memory(numbers), numbers);
     let sparse = numbers.percent(60);
-    let causes = (0..9).fold(0, |causes, n| {
+    let causes = (0..10).fold(0, |causes, n| {
         let set = numbers.percent(if sparse { 15 } else { 45 });
         causes | u32::from(set) << n
     });
     let mut world = World::of(&scene);
     damage(&mut world, causes, numbers);
-    if causes & 0x80 != 0 {
-        world
-            .record
-            .resize(numbers.pick(&[0, 413, 414, 423, 425, 1000]), 0x55);
-    }
     let wanted = if causes & 0x40 != 0 {
         too_many(numbers)
     } else {
@@ -153,16 +160,16 @@ pub fn case(numbers: &mut Numbers, counts: &mut Counts) -> Result<(), Difference
     let lines = numbers.word() as u16;
     let item = format!("{} at once", (causes & 0x7F).count_ones());
     counts.calls.add("causes of refusals 1 to 7", item);
-    calls(
-        &world,
-        causes,
-        [false, true].map(|to_exception| Run {
-            to_exception,
-            wanted,
-            lines,
-        }),
-        counts,
-    )?;
+    let item = format!("{} at once", (causes & 0x17F).count_ones());
+    counts.calls.add("causes of refusals 1 to 7 and 9", item);
+    let kinds = [(false, false), (true, false), (false, true), (true, true)];
+    let runs = kinds.map(|(to_exception, charged)| Run {
+        to_exception,
+        charged,
+        wanted,
+        lines,
+    });
+    calls(&world, causes, runs, counts)?;
     reading(&world, causes, numbers, counts)
 }
 
@@ -171,7 +178,7 @@ pub fn case(numbers: &mut Numbers, counts: &mut Counts) -> Result<(), Difference
 fn calls(
     world: &World,
     causes: u32,
-    runs: [Run; 2],
+    runs: [Run; 4],
     counts: &mut Counts,
 ) -> Result<(), Difference> {
     let rest = [Call::WriteRecord, Call::PageView(0xC0000), Call::Reset];
@@ -201,9 +208,9 @@ fn reading(
         bench.call(Call::WriteRecord, &mut counts.calls)?;
         let lines = numbers.word() as u16;
         for wanted in [0, 3, MAX_STEPS + 1] {
-            let to_exception = numbers.percent(50);
             let run = Run {
-                to_exception,
+                to_exception: numbers.percent(50),
+                charged: numbers.percent(50),
                 wanted,
                 lines,
             };

@@ -1,7 +1,7 @@
 //! The C interface of libeco32.a. All unsafe code of the test is here.
 
 use eco32_reference::host::View;
-use eco32_reference::Answer;
+use eco32_reference::{Answer, Charged};
 
 #[repr(C)]
 struct RawAnswer {
@@ -9,6 +9,15 @@ struct RawAnswer {
     steps: u32,
     eid: u32,
     slot: u32,
+}
+
+#[repr(C)]
+struct RawCharged {
+    refusal: u32,
+    steps: u32,
+    eid: u32,
+    slot: u32,
+    charge: u64,
 }
 
 #[repr(C)]
@@ -31,6 +40,21 @@ type RawRun = unsafe extern "C" fn(
     u64,
     u16,
 ) -> RawAnswer;
+
+type RawRunCharged = unsafe extern "C" fn(
+    *mut u8,
+    usize,
+    *mut u8,
+    usize,
+    *const u8,
+    usize,
+    *mut u8,
+    usize,
+    *const u8,
+    usize,
+    u64,
+    u16,
+) -> RawCharged;
 
 extern "C" {
     fn eco32_reset(machine: *mut u8, machine_len: usize) -> u32;
@@ -70,6 +94,34 @@ extern "C" {
         wanted: u64,
         lines: u16,
     ) -> RawAnswer;
+    fn eco32_run_charged(
+        machine: *mut u8,
+        machine_len: usize,
+        ram: *mut u8,
+        ram_len: usize,
+        rom: *const u8,
+        rom_len: usize,
+        belt: *mut u8,
+        belt_len: usize,
+        charges: *const u8,
+        charges_len: usize,
+        wanted: u64,
+        lines: u16,
+    ) -> RawCharged;
+    fn eco32_run_to_exception_charged(
+        machine: *mut u8,
+        machine_len: usize,
+        ram: *mut u8,
+        ram_len: usize,
+        rom: *const u8,
+        rom_len: usize,
+        belt: *mut u8,
+        belt_len: usize,
+        charges: *const u8,
+        charges_len: usize,
+        wanted: u64,
+        lines: u16,
+    ) -> RawCharged;
     fn eco32_page_view(
         ram: *const u8,
         ram_len: usize,
@@ -167,6 +219,52 @@ pub fn run_to_exception(
         wanted,
         lines,
     )
+}
+
+/// What a charged run is lent, in the order of its parameters.
+pub struct Lending<'a> {
+    pub machine: &'a mut [u8],
+    pub ram: &'a mut [u8],
+    pub rom: &'a [u8],
+    pub belt: &'a mut [u8],
+    pub charges: &'a [u8],
+}
+
+fn call_charged(run: RawRunCharged, lent: Lending, wanted: u64, lines: u16) -> Charged {
+    let raw = unsafe {
+        run(
+            lent.machine.as_mut_ptr(),
+            lent.machine.len(),
+            lent.ram.as_mut_ptr(),
+            lent.ram.len(),
+            lent.rom.as_ptr(),
+            lent.rom.len(),
+            lent.belt.as_mut_ptr(),
+            lent.belt.len(),
+            lent.charges.as_ptr(),
+            lent.charges.len(),
+            wanted,
+            lines,
+        )
+    };
+    let answer = Answer {
+        refusal: raw.refusal,
+        steps: raw.steps,
+        eid: raw.eid,
+        slot: raw.slot,
+    };
+    Charged {
+        answer,
+        charge: raw.charge,
+    }
+}
+
+pub fn run_charged(lent: Lending, wanted: u64, lines: u16) -> Charged {
+    call_charged(eco32_run_charged, lent, wanted, lines)
+}
+
+pub fn run_to_exception_charged(lent: Lending, wanted: u64, lines: u16) -> Charged {
+    call_charged(eco32_run_to_exception_charged, lent, wanted, lines)
 }
 
 pub fn page_view(ram: &[u8], machine: &[u8], page: u64) -> View {

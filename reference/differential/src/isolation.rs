@@ -1,11 +1,13 @@
 //! Pairs of machines in User Mode that differ only in frames which no valid
 //! user page reaches, given one list of runs. Their timers and replacement
-//! indexes are equal (document 02, jobs 1 and 4).
+//! indexes are equal (document 02, jobs 1 and 4), and so are the charges of the
+//! runs that are charged (document 02, job 3).
 
 use crate::bench::{Bench, Counts, Difference};
+use crate::charges;
 use crate::frames::{frames, Frame, Part, Reached, TIMER_FRAME};
 use crate::runs::{agree, list, memory, stream, walk, wanted_steps, Walked};
-use crate::world::{Call, Outcome, Run, World};
+use crate::world::{Call, Lent, Outcome, Run, World};
 use eco32_reference::record::REPLACEMENT_AT;
 use eco32_reference::vectors::machines;
 use eco32_reference::vectors::numbers::Numbers;
@@ -62,7 +64,13 @@ impl Pair {
         counts.calls.add("isolation", item);
     }
 
-    /// One run of both; their answers.
+    /// Lends both machines the same list of charges.
+    fn lend(&mut self, charges: &[u8]) {
+        self.first.lend(charges);
+        self.second.charges = Lent::of(charges);
+    }
+
+    /// One run of both; their answers, which hold their charges.
     fn run(&mut self, run: Run, counts: &mut Counts) -> Result<[Outcome; 2], Difference> {
         let call = Call::Run(run);
         let first = self.first.call(call, &mut counts.calls)?;
@@ -173,7 +181,7 @@ struct Leaving {
 /// leaves User Mode.
 fn follow(
     scene: &mut Scene,
-    run: &Run,
+    (run, charges): (&Run, &[u8]),
     cut: bool,
     leaving: &mut Leaving,
     counts: &mut Counts,
@@ -181,14 +189,17 @@ fn follow(
     let one = Run {
         to_exception: true,
         wanted: 1,
-        lines: run.lines,
+        ..*run
     };
     let mut walked = Walked::NONE;
     while run.wanted <= MAX_STEPS && walked.steps < run.wanted {
         leaving.passed = leaving.eid.is_some();
-        let Walked { eid, slot, .. } = walk(scene, &one, counts);
+        let Walked {
+            eid, slot, charge, ..
+        } = walk(scene, &one, charges, counts);
         walked.steps += 1;
         walked.slot = slot;
+        walked.charge += charge;
         let leaves = leaving.eid.is_none() && !scene.cpu.user_mode();
         if leaves {
             leaving.eid = Some(eid);
@@ -215,7 +226,9 @@ pub fn case(numbers: &mut Numbers, counts: &mut Counts) -> Result<(), Difference
     let mut steps = 0;
     for (n, mut run) in list.into_iter().enumerate() {
         let cut = !run.to_exception && run.wanted <= MAX_STEPS && numbers.percent(70);
-        let walked = follow(&mut scene, &run, cut, &mut leaving, counts);
+        let charges = charges::random(&run, numbers, counts);
+        pair.lend(&charges);
+        let walked = follow(&mut scene, (&run, &charges), cut, &mut leaving, counts);
         if cut {
             run.wanted = walked.steps;
         }
@@ -241,7 +254,8 @@ pub fn case(numbers: &mut Numbers, counts: &mut Counts) -> Result<(), Difference
 }
 
 fn count(answer: Outcome, leaving: &Leaving, counts: &mut Counts) {
-    let Outcome::Answer(answer) = answer else {
+    let (charged, charge) = (matches!(answer, Outcome::Charged(_)), answer.charge());
+    let Some(answer) = answer.answer() else {
         return;
     };
     let item = match (answer.refusal, answer.steps, leaving.eid) {
@@ -253,6 +267,14 @@ fn count(answer: Outcome, leaving: &Leaving, counts: &mut Counts) {
         (_, _, Some(_)) => "runs that end with the leaving step",
     };
     counts.calls.add("isolation", item);
+    if charged {
+        counts.calls.add("isolation, charged", item);
+    }
+    if charge > 0 && !leaving.passed {
+        counts
+            .calls
+            .add("isolation, charged", "equal charges above 0");
+    }
     if answer.steps > 0 && !leaving.passed {
         let item = answer.slot.to_string();
         counts.calls.add("slot of a pair's last step", item);

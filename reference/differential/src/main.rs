@@ -2,6 +2,7 @@
 //! answer and byte for byte.
 
 mod bench;
+mod charges;
 mod coverage;
 mod damage;
 #[allow(unsafe_code)]
@@ -74,6 +75,7 @@ fn case(seed: u64, number: u64, counts: &mut Counts) -> Result<(), Difference> {
 fn all(options: &Options, counts: &mut Counts) -> Result<(), Difference> {
     systematic::all(counts)?;
     slots::all(counts)?;
+    charges::all(counts)?;
     let mut set = SetTest {
         counts,
         cases: 0,

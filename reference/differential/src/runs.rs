@@ -1,6 +1,7 @@
 //! Random machines with random lists of runs.
 
 use crate::bench::{Bench, Counts, Difference};
+use crate::charges;
 use crate::world::{Call, Outcome, Run, World};
 use eco32_reference::vectors::machines;
 use eco32_reference::vectors::numbers::Numbers;
@@ -51,6 +52,7 @@ pub fn list(numbers: &mut Numbers) -> Vec<Run> {
     (0..count)
         .map(|_| Run {
             to_exception: numbers.percent(60),
+            charged: numbers.percent(40),
             wanted: wanted(numbers, style),
             lines: if numbers.percent(busy) {
                 random_lines(numbers)
@@ -82,12 +84,13 @@ pub fn stream(start: Scene, list: &[Run], numbers: &mut Numbers) -> Scene {
 }
 
 /// What the single steps of a run come to: their number, the EID that ends it
-/// or 32, and the slot of the last or 33.
+/// or 32, the slot of the last or 33, and their charge if it is charged.
 #[derive(Debug, PartialEq)]
 pub struct Walked {
     pub steps: u64,
     pub eid: u32,
     pub slot: u32,
+    pub charge: u64,
 }
 
 impl Walked {
@@ -95,16 +98,23 @@ impl Walked {
         steps: 0,
         eid: NO_EXCEPTION,
         slot: NO_SLOT,
+        charge: 0,
     };
 }
 
-/// The steps of one run, made one by one to count what they cover.
-pub fn walk(scene: &mut Scene, run: &Run, counts: &mut Counts) -> Walked {
+/// The steps of one run, made one by one to count what they cover, and charged
+/// by a list of the right length.
+pub fn walk(scene: &mut Scene, run: &Run, list: &[u8], counts: &mut Counts) -> Walked {
     let mut walked = Walked::NONE;
     while run.wanted <= MAX_STEPS && walked.steps < run.wanted {
         let stepped = counts.steps.step(scene, run.lines);
         walked.steps += 1;
         walked.slot = stepped.slot;
+        if run.charged {
+            walked.charge += charges::cost(list, stepped);
+            let entry = charges::entry_of(stepped).to_string();
+            counts.calls.add("charged by entry", entry);
+        }
         if run.to_exception && stepped.eid != NO_EXCEPTION {
             walked.eid = stepped.eid;
             break;
@@ -120,16 +130,17 @@ pub fn agree(
     scene: &Scene,
     bench: &Bench,
 ) -> Result<(), Difference> {
-    let Outcome::Answer(answer) = outcome else {
+    let Some(answer) = outcome.answer() else {
         return Err("no answer of a run".to_string());
     };
     let answered = Walked {
         steps: u64::from(answer.steps),
         eid: answer.eid,
         slot: answer.slot,
+        charge: outcome.charge(),
     };
     if answered != walked {
-        return Err(format!("{answer:?}, but single steps give {walked:?}"));
+        return Err(format!("{outcome:?}, but single steps give {walked:?}"));
     }
     let mut record = [0; RECORD_LENGTH];
     write_record(&scene.cpu, &mut record);
@@ -149,7 +160,13 @@ pub fn case(numbers: &mut Numbers, counts: &mut Counts) -> Result<(), Difference
     counts.steps.begin(wanted_steps(&list));
     for (n, run) in list.iter().enumerate() {
         count_run(run, counts);
-        let walked = walk(&mut scene, run, counts);
+        let charges = charges::random(run, numbers, counts);
+        bench.lend(&charges);
+        if run.charged && numbers.percent(5) {
+            charges::refused(&mut bench, *run, numbers, counts)
+                .map_err(|what| format!("before run {n}: {what}"))?;
+        }
+        let walked = walk(&mut scene, run, &charges, counts);
         bench
             .call(Call::Run(*run), &mut counts.calls)
             .and_then(|outcome| agree(outcome, walked, &scene, &bench))
@@ -165,10 +182,11 @@ fn count_index(scene: &Scene, counts: &mut Counts) {
 }
 
 fn count_run(run: &Run, counts: &mut Counts) {
-    let kind = if run.to_exception {
-        "to exception"
-    } else {
-        "plain"
+    let kind = match (run.to_exception, run.charged) {
+        (false, false) => "plain",
+        (true, false) => "to exception",
+        (false, true) => "charged plain",
+        (true, true) => "charged to exception",
     };
     let length = match run.wanted {
         0 => "0 steps",

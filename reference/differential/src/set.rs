@@ -1,10 +1,12 @@
-//! The cases of the long set of vectors, step by step on the library.
+//! The cases of the long set of vectors, step by step on the library, as
+//! charged runs, which are held to those without charges.
 
 use crate::bench::{Bench, Counts, Difference};
+use crate::charges;
 use crate::world::{Call, Outcome, Run, World};
 use eco32_reference::vectors::scene::Scene;
 use eco32_reference::vectors::Sink;
-use eco32_reference::{Answer, Stepped};
+use eco32_reference::Charged;
 
 pub struct SetTest<'a> {
     pub counts: &'a mut Counts,
@@ -22,16 +24,18 @@ impl SetTest<'_> {
             let stepped = self.counts.steps.step(&mut scene, lines);
             let run = Run {
                 to_exception: true,
+                charged: true,
                 wanted: 1,
                 lines,
             };
             let outcome = bench
                 .call(Call::Run(run), &mut self.counts.calls)
                 .map_err(|what| format!("step {n}: {what}"))?;
-            let Outcome::Answer(Answer { eid, slot, .. }) = outcome else {
+            let Outcome::Charged(Charged { answer, charge }) = outcome else {
                 return Err("no answer of a step".to_string());
             };
-            if stepped != (Stepped { eid, slot }) {
+            let cost = charges::cost(bench.library.charges.bytes(), stepped);
+            if (answer.eid, answer.slot, charge) != (stepped.eid, stepped.slot, cost) {
                 return Err(format!("step {n}: {outcome:?}, not {stepped:?}"));
             }
         }

@@ -2,7 +2,7 @@
 //! (document 02, job 2).
 
 use crate::bench::{Bench, Counts, Difference};
-use crate::systematic::{plain, to_exception};
+use crate::systematic::{charged, plain, to_exception};
 use crate::world::{Call, Outcome, World};
 use eco32_reference::asm::{addi, ldbu, ldw, stb, sth, trap};
 use eco32_reference::vectors::scene::Scene;
@@ -64,9 +64,11 @@ pub fn all(counts: &mut Counts) -> Result<(), Difference> {
                 } else {
                     plain(wanted)
                 };
-                let mut bench = Bench::new(World::of(&scene));
-                let outcome = bench.expect(Call::Run(run), 0, &mut counts.calls)?;
-                answers(outcome, expected)?;
+                for run in [run, charged(run)] {
+                    let mut bench = Bench::new(World::of(&scene));
+                    let outcome = bench.expect(Call::Run(run), 0, &mut counts.calls)?;
+                    answers(outcome, expected)?;
+                }
             }
         }
         let mut bench = Bench::new(World::of(&scene));
@@ -82,6 +84,7 @@ pub fn all(counts: &mut Counts) -> Result<(), Difference> {
 fn answers(outcome: Outcome, expected: u32) -> Result<(), Difference> {
     let slot = match outcome {
         Outcome::Answer(answer) => answer.slot,
+        Outcome::Charged(charged) => charged.answer.slot,
         Outcome::View(view) => view.slot,
         Outcome::Number(_) => NO_SLOT,
     };

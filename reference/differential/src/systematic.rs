@@ -14,11 +14,12 @@ use eco32_reference::{MAX_STEPS, OLD_RECORD_LENGTH, RECORD_LENGTH};
 const RAM_MOST: usize = 536_870_912;
 const ROM_MOST: usize = 268_435_456;
 
-const RUNS: [Run; 2] = [plain(1), to_exception(1)];
+const RUNS: [Run; 4] = each_kind(1);
 
 pub const fn plain(wanted: u64) -> Run {
     Run {
         to_exception: false,
+        charged: false,
         wanted,
         lines: 0,
     }
@@ -27,9 +28,23 @@ pub const fn plain(wanted: u64) -> Run {
 pub const fn to_exception(wanted: u64) -> Run {
     Run {
         to_exception: true,
+        charged: false,
         wanted,
         lines: 0,
     }
+}
+
+pub const fn charged(run: Run) -> Run {
+    Run {
+        charged: true,
+        ..run
+    }
+}
+
+/// Both kinds of run, without charges and with them.
+const fn each_kind(wanted: u64) -> [Run; 4] {
+    let (plain, to_exception) = (plain(wanted), to_exception(wanted));
+    [plain, to_exception, charged(plain), charged(to_exception)]
 }
 
 pub fn all(counts: &mut Counts) -> Result<(), Difference> {
@@ -176,35 +191,49 @@ fn lengths_of_memory(counts: &mut Counts) -> Result<(), Difference> {
     Ok(())
 }
 
-/// All sets of the causes 1 to 7, for both kinds of run, with several lengths
-/// that a run takes no machine of.
+/// Whether a set of causes has that of a refusal. Bit 7 is that of 9.
+fn holds(causes: u32, refusal: u32) -> bool {
+    let bit = if refusal == 9 { 7 } else { refusal - 1 };
+    causes >> bit & 1 == 1
+}
+
+/// A world with these causes, but for too many steps; a machine of another
+/// length has the given one.
+fn with_causes(causes: u32, length: usize) -> World {
+    let mut world = full_world();
+    if holds(causes, 6) {
+        world.machine.bytes_mut()[135] |= 0x80;
+    }
+    if holds(causes, 5) {
+        world.machine.bytes_mut()[129] = 3;
+    }
+    if holds(causes, 4) {
+        world.machine.resize(length, 0);
+    }
+    for (refusal, lent) in [
+        (1, &mut world.ram),
+        (2, &mut world.rom),
+        (3, &mut world.belt),
+        (9, &mut world.charges),
+    ] {
+        if holds(causes, refusal) {
+            lent.resize(lent.bytes().len() + 1, 0);
+        }
+    }
+    world
+}
+
+/// All sets of the causes 1 to 7 and 9, for both kinds of run, with several
+/// lengths that a run takes no machine of. A run without charges takes no list.
 fn sets_of_causes(counts: &mut Counts) -> Result<(), Difference> {
-    for (causes, length) in (0..128u32).flat_map(|causes| [413, 414, 423].map(|n| (causes, n))) {
-        let holds = |refusal: u32| causes >> (refusal - 1) & 1 == 1;
-        let mut world = full_world();
-        if holds(6) {
-            world.machine.bytes_mut()[135] |= 0x80;
-        }
-        if holds(5) {
-            world.machine.bytes_mut()[129] = 3;
-        }
-        if holds(4) {
-            world.machine.resize(length, 0);
-        }
-        for (refusal, lent) in [
-            (1, &mut world.ram),
-            (2, &mut world.rom),
-            (3, &mut world.belt),
-        ] {
-            if holds(refusal) {
-                lent.resize(lent.bytes().len() + 1, 0);
-            }
-        }
-        let wanted = if holds(7) { MAX_STEPS + 1 } else { 2 };
-        let refusal = (1..8).find(|&refusal| holds(refusal)).unwrap_or(0);
-        for run in [plain(wanted), to_exception(wanted)] {
+    for (causes, length) in (0..256).flat_map(|causes| [413, 414, 423].map(|n| (causes, n))) {
+        let world = with_causes(causes, length);
+        let wanted = if holds(causes, 7) { MAX_STEPS + 1 } else { 2 };
+        for run in each_kind(wanted) {
+            let last = if run.charged { Some(9) } else { None };
+            let first = (1..8).chain(last).find(|&refusal| holds(causes, refusal));
             let mut bench = Bench::new(world.clone());
-            bench.expect(Call::Run(run), refusal, &mut counts.calls)?;
+            bench.expect(Call::Run(run), first.unwrap_or(0), &mut counts.calls)?;
         }
     }
     Ok(())
@@ -233,7 +262,7 @@ fn numbers_of_steps(counts: &mut Counts) -> Result<(), Difference> {
     let scene = endless_loop();
     let timed = scene.clone().with_timer(1009, 1, 2).with_index(31);
     for wanted in [0, 1, 2, MAX_STEPS - 1, MAX_STEPS] {
-        for run in [plain(wanted), to_exception(wanted)] {
+        for run in each_kind(wanted) {
             for scene in [&scene, &timed] {
                 let mut bench = Bench::new(World::of(scene));
                 bench.expect(Call::Run(run), 0, &mut counts.calls)?;
@@ -243,7 +272,7 @@ fn numbers_of_steps(counts: &mut Counts) -> Result<(), Difference> {
         }
     }
     for wanted in [MAX_STEPS + 1, 1 << 32, (1 << 32) + 1, 1 << 63, u64::MAX] {
-        for run in [plain(wanted), to_exception(wanted)] {
+        for run in each_kind(wanted) {
             let mut bench = Bench::new(World::of(&scene));
             bench.expect(Call::Run(run), 7, &mut counts.calls)?;
         }
@@ -281,8 +310,9 @@ fn largest_memory(counts: &mut Counts) -> Result<(), Difference> {
         }
     }
     // Two stores at the end of RAM, then on into the zeros of ROM.
-    let run = Call::Run(plain(5));
-    bench.call(run, &mut counts.calls)?;
+    for run in [plain(2), charged(plain(3))] {
+        bench.call(Call::Run(run), &mut counts.calls)?;
+    }
     for page in [0xDFFFF, 0xE0000, 0xC0000] {
         bench.call(Call::PageView(page), &mut counts.calls)?;
     }

@@ -1,9 +1,10 @@
 //! The bytes that a host lends, and the calls on them.
 
-use crate::ffi;
+use crate::charges;
+use crate::ffi::{self, Lending};
 use eco32_reference::host::{self, View};
 use eco32_reference::vectors::scene::Scene;
-use eco32_reference::{write_record, Answer, RECORD_LENGTH};
+use eco32_reference::{write_record, Answer, Charged, RECORD_LENGTH};
 
 /// Bytes on both sides of a lent slice that no call may touch.
 const GUARD: usize = 64;
@@ -68,11 +69,12 @@ pub struct World {
     pub ram: Lent,
     pub rom: Lent,
     pub belt: Lent,
+    pub charges: Lent,
 }
 
 impl World {
     /// The machine as a record, and its memory; the record buffer holds other
-    /// bytes.
+    /// bytes, and no two entries of the list of charges are equal.
     pub fn of(scene: &Scene) -> World {
         let mut machine = vec![0; RECORD_LENGTH];
         let refusal = write_record(&scene.cpu, &mut machine);
@@ -83,16 +85,18 @@ impl World {
             ram: Lent::of(&scene.ram),
             rom: Lent::of(&scene.rom),
             belt: Lent::of(&scene.belt),
+            charges: Lent::of(&charges::distinct()),
         }
     }
 
-    fn parts(&self) -> [(&'static str, &Lent); 5] {
+    fn parts(&self) -> [(&'static str, &Lent); 6] {
         [
             ("record", &self.record),
             ("machine", &self.machine),
             ("RAM", &self.ram),
             ("ROM", &self.rom),
             ("belt", &self.belt),
+            ("charges", &self.charges),
         ]
     }
 
@@ -133,6 +137,7 @@ pub enum Call {
 #[derive(Clone, Copy, Debug, PartialEq, Eq)]
 pub struct Run {
     pub to_exception: bool,
+    pub charged: bool,
     pub wanted: u64,
     pub lines: u16,
 }
@@ -142,6 +147,7 @@ pub struct Run {
 pub enum Outcome {
     Number(u32),
     Answer(Answer),
+    Charged(Charged),
     View(View),
 }
 
@@ -150,8 +156,84 @@ impl Outcome {
         match self {
             Outcome::Number(refusal) => refusal,
             Outcome::Answer(answer) => answer.refusal,
+            Outcome::Charged(charged) => charged.answer.refusal,
             Outcome::View(view) => view.refusal,
         }
+    }
+
+    /// The answer of a run, charged or not.
+    pub fn answer(self) -> Option<Answer> {
+        match self {
+            Outcome::Answer(answer) => Some(answer),
+            Outcome::Charged(charged) => Some(charged.answer),
+            Outcome::Number(_) | Outcome::View(_) => None,
+        }
+    }
+
+    /// The charge of a run, 0 of one that is not charged.
+    pub fn charge(self) -> u64 {
+        match self {
+            Outcome::Charged(charged) => charged.charge,
+            Outcome::Number(_) | Outcome::Answer(_) | Outcome::View(_) => 0,
+        }
+    }
+}
+
+impl Run {
+    pub fn name(&self) -> &'static str {
+        match (self.to_exception, self.charged) {
+            (false, false) => "run",
+            (true, false) => "run_to_exception",
+            (false, true) => "run_charged",
+            (true, true) => "run_to_exception_charged",
+        }
+    }
+
+    fn library(self, world: &mut World) -> Outcome {
+        let lent = Lending {
+            machine: world.machine.bytes_mut(),
+            ram: world.ram.bytes_mut(),
+            rom: world.rom.bytes(),
+            belt: world.belt.bytes_mut(),
+            charges: world.charges.bytes(),
+        };
+        let (wanted, lines) = (self.wanted, self.lines);
+        if self.charged {
+            let call = if self.to_exception {
+                ffi::run_to_exception_charged
+            } else {
+                ffi::run_charged
+            };
+            return Outcome::Charged(call(lent, wanted, lines));
+        }
+        let call = if self.to_exception {
+            ffi::run_to_exception
+        } else {
+            ffi::run
+        };
+        let (machine, ram) = (lent.machine, lent.ram);
+        Outcome::Answer(call(machine, ram, lent.rom, lent.belt, wanted, lines))
+    }
+
+    fn simulator(self, world: &mut World) -> Outcome {
+        let (machine, ram) = (world.machine.bytes_mut(), world.ram.bytes_mut());
+        let (rom, belt) = (world.rom.bytes(), world.belt.bytes_mut());
+        let (wanted, lines) = (self.wanted, self.lines);
+        if self.charged {
+            let call = if self.to_exception {
+                host::run_to_exception_charged
+            } else {
+                host::run_charged
+            };
+            let charges = world.charges.bytes();
+            return Outcome::Charged(call(machine, ram, rom, belt, charges, wanted, lines));
+        }
+        let call = if self.to_exception {
+            host::run_to_exception
+        } else {
+            host::run
+        };
+        Outcome::Answer(call(machine, ram, rom, belt, wanted, lines))
     }
 }
 
@@ -161,8 +243,7 @@ impl Call {
             Call::Reset => "reset",
             Call::ReadRecord => "read_record",
             Call::WriteRecord => "write_record",
-            Call::Run(run) if run.to_exception => "run_to_exception",
-            Call::Run(_) => "run",
+            Call::Run(run) => run.name(),
             Call::PageView(_) => "page_view",
         }
     }
@@ -181,55 +262,37 @@ impl Call {
 
     /// The call by the library.
     pub fn library(&self, world: &mut World) -> Outcome {
-        let World {
-            record,
-            machine,
-            ram,
-            rom,
-            belt,
-        } = world;
-        let machine = machine.bytes_mut();
+        let (record, machine) = (&mut world.record, &mut world.machine);
         match *self {
-            Call::Reset => Outcome::Number(ffi::reset(machine)),
-            Call::ReadRecord => Outcome::Number(ffi::read_record(record.bytes(), machine)),
-            Call::WriteRecord => Outcome::Number(ffi::write_record(machine, record.bytes_mut())),
-            Call::Run(run) => {
-                let call = if run.to_exception {
-                    ffi::run_to_exception
-                } else {
-                    ffi::run
-                };
-                let (ram, rom, belt) = (ram.bytes_mut(), rom.bytes(), belt.bytes_mut());
-                Outcome::Answer(call(machine, ram, rom, belt, run.wanted, run.lines))
+            Call::Reset => Outcome::Number(ffi::reset(machine.bytes_mut())),
+            Call::ReadRecord => {
+                Outcome::Number(ffi::read_record(record.bytes(), machine.bytes_mut()))
             }
-            Call::PageView(page) => Outcome::View(ffi::page_view(ram.bytes(), machine, page)),
+            Call::WriteRecord => {
+                Outcome::Number(ffi::write_record(machine.bytes(), record.bytes_mut()))
+            }
+            Call::Run(run) => run.library(world),
+            Call::PageView(page) => {
+                Outcome::View(ffi::page_view(world.ram.bytes(), machine.bytes(), page))
+            }
         }
     }
 
     /// The call by the simulator.
     pub fn simulator(&self, world: &mut World) -> Outcome {
-        let World {
-            record,
-            machine,
-            ram,
-            rom,
-            belt,
-        } = world;
-        let machine = machine.bytes_mut();
+        let (record, machine) = (&mut world.record, &mut world.machine);
         match *self {
-            Call::Reset => Outcome::Number(host::reset(machine)),
-            Call::ReadRecord => Outcome::Number(host::read_record(record.bytes(), machine)),
-            Call::WriteRecord => Outcome::Number(host::write_record(machine, record.bytes_mut())),
-            Call::Run(run) => {
-                let call = if run.to_exception {
-                    host::run_to_exception
-                } else {
-                    host::run
-                };
-                let (ram, rom, belt) = (ram.bytes_mut(), rom.bytes(), belt.bytes_mut());
-                Outcome::Answer(call(machine, ram, rom, belt, run.wanted, run.lines))
+            Call::Reset => Outcome::Number(host::reset(machine.bytes_mut())),
+            Call::ReadRecord => {
+                Outcome::Number(host::read_record(record.bytes(), machine.bytes_mut()))
             }
-            Call::PageView(page) => Outcome::View(host::page_view(ram.bytes(), machine, page)),
+            Call::WriteRecord => {
+                Outcome::Number(host::write_record(machine.bytes(), record.bytes_mut()))
+            }
+            Call::Run(run) => run.simulator(world),
+            Call::PageView(page) => {
+                Outcome::View(host::page_view(world.ram.bytes(), machine.bytes(), page))
+            }
         }
     }
 }

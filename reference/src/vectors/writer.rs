@@ -121,7 +121,7 @@ impl Sink for Writer {
         let mut scene = start.clone();
         for &lines in lines {
             let before = scene.clone();
-            let Stepped { eid, slot } = self.observer.step(&mut scene, lines);
+            let Stepped { eid, slot, .. } = self.observer.step(&mut scene, lines);
             self.patch(&before, &scene);
             self.command(STEP, usize::from(lines), 256 * slot + eid);
         }

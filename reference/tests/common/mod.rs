@@ -87,7 +87,7 @@ impl Rig {
         self.stepped(lines).eid
     }
 
-    /// One step, with its EID and its slot.
+    /// One step, with all that it tells.
     pub fn stepped(&mut self, lines: u16) -> Stepped {
         let mut memory = Memory {
             ram: &mut self.ram,
@@ -115,7 +115,7 @@ impl Rig {
     /// Makes one step and checks that it faults with `eid`, that memory
     /// stays, and that the state is exactly that of exception entry to `pc`
     /// with `psw`, changed by `change` in Bad Address and Entry High, and by
-    /// the move of the replacement index. It has no slot.
+    /// the move of the replacement index. It has no slot and no opcode.
     #[track_caller]
     pub fn faults(
         &self,
@@ -132,7 +132,12 @@ impl Rig {
         expected.pc = pc;
         expected.replacement = moved(expected.replacement, 1);
         change(&mut expected);
-        assert_eq!(after.stepped(0), Stepped { eid, slot: 33 }, "{what}: EID");
+        let expected_step = Stepped {
+            eid,
+            slot: 33,
+            opcode: None,
+        };
+        assert_eq!(after.stepped(0), expected_step, "{what}: EID");
         assert_eq!(after.cpu, expected, "{what}: state");
         self.memory_equals(&after, what);
     }

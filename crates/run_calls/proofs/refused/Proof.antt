@@ -4,7 +4,7 @@ use Rattle.run_calls.proofs.refused.Statement.{statement}
 use Rattle.run_calls.proofs.refused.Tie as tie
 
 returns : tie.Need-returns
-returns c = (refl, refl, refl, refl)
+returns c = (refl, refl, refl, refl, refl)
 
 pub refused-spec : {M : Type 1} → statement M
 refused-spec = tie.close (tie.spec returns)

@@ -1,6 +1,7 @@
 -- `replay::model::opcode_at` meets its contract, by its definition.
 use mathlib.Core.Path.{ap, sym, _∙_}
-use Rattle.replay.specs.Tallies.{opcodeRead, opcodeAt}
+use Rattle.look.specs.Look.{opcodeRead}
+use Rattle.replay.specs.Tallies.{opcodeAt}
 use borrow.Author.Needs.{needs}
 use Rattle.replay.proofs.model.opcode_at.Statement.{statement}
 use Rattle.replay.proofs.model.opcode_at.Tie as tie

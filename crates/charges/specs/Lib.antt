@@ -1,0 +1,3 @@
+-- The definitions of `charges`, in the order to read them.
+pub mod Charges
+pub mod Code
