@@ -1,4 +1,4 @@
-// The two exported runs.
+// The exported runs without charges.
 use run_calls::Answer;
 ghost use mathlib.Core.Path.{_≡_};
 ghost use Rattle.memory.specs.Lent.{lent, left};

@@ -29,7 +29,7 @@ use Rattle.access.specs.declared.Read.{Read}
 use Rattle.access.specs.declared.Read.the-variants.{Value, Fault}
 use Rattle.machine.specs.Machine.{Machine}
 use Rattle.look.specs.Look.{operandsOf, decoded, lookFrom, noOpcode, opcodeRead, opcodeFrom}
-use Rattle.step.specs.Step.{look, opcodeLooked}
+use Rattle.step.specs.Step.{look, opcodeFetched}
 use Rattle.isolation.specs.Frames.{frameAt, lowWord, ValidUserPage, Reached, ReachedWritable, SameIn}
 use Rattle.isolation.proofs.SameActions.{executed-same}
 
@@ -130,6 +130,6 @@ module _ (p : Processor) (timer : Timer) (user : userMode (p .psw) ≡ true) (m 
       (decoded-same (readFrom 4 s (p .pc)) ∙ ap (decoded t (p .registers) (p .pc)) (reads 4 1024 refl (p .pc)))
 
   pub opcode-same : (lines : ℕ)
-      → opcodeLooked (record { processor = p; timer = timer; memory = m }) lines ≡ opcodeLooked (record { processor = p; timer = timer; memory = n }) lines
+      → opcodeFetched (record { processor = p; timer = timer; memory = m }) lines ≡ opcodeFetched (record { processor = p; timer = timer; memory = n }) lines
   unfolding opcodeFrom
   opcode-same lines = ap (λ (r : Read). cond (ltb (channel (p .psw) (linesWith timer lines)) 32) noOpcode (opcodeRead r)) (reads 4 1024 refl (p .pc))

@@ -30,7 +30,7 @@ use Rattle.access.specs.declared.Read.the-variants.{Value, Fault}
 use Rattle.machine.specs.Machine.{Machine}
 use Rattle.look.specs.Look.{operandsOf, decoded, lookFrom}
 use Rattle.actions.specs.Actions.{processorAfter}
-use Rattle.step.specs.Step.{surroundingsOf, look, timerDone, memoryDone, opcodeLooked, done, told, stepOf}
+use Rattle.step.specs.Step.{surroundingsOf, look, timerDone, memoryDone, opcodeFetched, done, told, stepOf}
 use Rattle.isolation.specs.Frames.{frameAt, lowWord, ValidUserPage, Reached, ReachedWritable, TimerNotWritable, SameIn}
 use Rattle.isolation.specs.Trace.{inUserMode}
 use Rattle.isolation.specs.Claim.{Specials, Left, Held, Alike}
@@ -221,10 +221,10 @@ module _ (q : Processor) (m n : Machine) (alike : Alike q m n)
       look-same (m .processor) (m .timer) user (m .memory) (n .memory) apart apart′ own lines
       ∙ ap (λ (k : Machine). look k lines) n-is
 
-  opcode-alike : opcodeLooked m lines ≡ opcodeLooked n lines
+  opcode-alike : opcodeFetched m lines ≡ opcodeFetched n lines
   opcode-alike =
       opcode-same (m .processor) (m .timer) user (m .memory) (n .memory) apart apart′ own lines
-      ∙ ap (λ (k : Machine). opcodeLooked k lines) n-is
+      ∙ ap (λ (k : Machine). opcodeFetched k lines) n-is
 
   -- the exception, the slot and the opcode that a step tells
   pub event-alike : stepOf m lines .event ≡ stepOf n lines .event

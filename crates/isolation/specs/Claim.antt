@@ -1,4 +1,4 @@
--- What isolation says of a list of runs (document 01, "Runs and views", last three paragraphs; document 02, jobs 1, 2 and 4; demand 3).
+-- What isolation says of a list of runs (document 01, "Runs and views", last three paragraphs; document 02, jobs 1 to 4; demand 3).
 use mathlib.Core.Path.{_≡_}
 use mathlib.Core.Bool.{true, false}
 use mathlib.Core.List.{List, [], _∷_}

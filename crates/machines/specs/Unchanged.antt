@@ -8,7 +8,7 @@ use Rattle.bytes.specs.Same.{same}
 use Rattle.timer.specs.declared.Timer.{Timer}
 use Rattle.processor.specs.declared.Processor.{Processor}
 use Rattle.machine.specs.Machine.{Machine}
-use Rattle.charges.specs.Code.{chargingBy}
+use Rattle.charges.specs.Charges.{Charging}
 use Rattle.refusals.specs.Request.{request}
 use Rattle.run_loop.specs.Run.{Outcome, runOf}
 
@@ -43,5 +43,5 @@ sameMachine p t ram belt m =
     both (sameState p t (m .processor) (m .timer)) (both (same ram (m .memory .ram)) (same belt (m .memory .belt)))
 
 -- a run with lines 0
-abbrev pub ran : Bool → Bool → List ℕ → Machine → ℕ → Outcome
-ran kind charged charges m wanted = runOf (request kind wanted 0 (chargingBy charged charges)) m
+abbrev pub ran : Bool → Charging → Machine → ℕ → Outcome
+ran kind charging m wanted = runOf (request kind wanted 0 charging) m

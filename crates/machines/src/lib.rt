@@ -11,6 +11,7 @@ ghost use Rattle.bytes.specs.Same.{same};
 ghost use Rattle.timer.specs.Timer.{timerAtReset};
 ghost use Rattle.processor.specs.State.{atReset};
 ghost use Rattle.machine.specs.Machine.{before, after};
+ghost use Rattle.charges.specs.Code.{chargingBy};
 ghost use Rattle.run_loop.specs.Run.{answer, outcome};
 ghost use Rattle.record.specs.Calls.{readRefusal, processorRead, timerRead, writeRefusal, bufferAfter};
 ghost use Rattle.machines.specs.Unchanged.{sameState, sameMachine, ran};
@@ -53,7 +54,7 @@ fn run_of_kind(
     wanted: u64,
 ) -> Ran
     ensures { λ r. ⌜ outcome (after (r .processor) (r .timer) ram rom belt) (r .refusal) (r .steps) (r .eid) (r .slot) (r .charge)
-        ≡ ran kind charged (now (charges .entry)) (before p timer ram rom belt) wanted ⌝ }
+        ≡ ran kind (chargingBy charged (now (charges .entry))) (before p timer ram rom belt) wanted ⌝ }
 {
     if charged {
         if kind {
@@ -67,7 +68,8 @@ fn run_of_kind(
     runs::run(p, timer, ram, rom, belt, wanted, 0)
 }
 
-// A run with lines 0; `kind` says whether an accepted exception ends it, `charged` whether it is charged. The copies are what RAM and belt are compared with after it.
+// A run with lines 0; `kind` says whether an accepted exception ends it, `charged` whether it is charged. The copies are what RAM and belt are
+// compared with after it.
 pub fn run(
     kind: bool,
     p: Processor,
@@ -82,16 +84,17 @@ pub fn run(
     beltcopy: &[u8],
 ) -> Outcome
     ensures answer { λ r. ⌜ answer (r .refusal) (r .steps) (r .eid) (r .slot) (r .charge)
-        ≡ ran kind charged (now (charges .entry)) (before p timer ram rom belt) wanted .answer ⌝ }
+        ≡ ran kind (chargingBy charged (now (charges .entry))) (before p timer ram rom belt) wanted .answer ⌝ }
     ensures unchanged { λ r. ⌜ r .unchanged
         ≡ sameMachine p timer (now (ramcopy .entry)) (now (beltcopy .entry))
-        (ran kind charged (now (charges .entry)) (before p timer ram rom belt) wanted .machine) ⌝ }
+        (ran kind (chargingBy charged (now (charges .entry))) (before p timer ram rom belt) wanted .machine) ⌝ }
     ensures register { λ r. ⌜ r .register
-        ≡ getD (ran kind charged (now (charges .entry)) (before p timer ram rom belt) wanted .machine .processor .registers) 1 0 ⌝ }
+        ≡ getD
+        (ran kind (chargingBy charged (now (charges .entry))) (before p timer ram rom belt) wanted .machine .processor .registers) 1 0 ⌝ }
     ensures replacement { λ r. ⌜ r .replacement
-        ≡ ran kind charged (now (charges .entry)) (before p timer ram rom belt) wanted .machine .processor .replacement ⌝ }
+        ≡ ran kind (chargingBy charged (now (charges .entry))) (before p timer ram rom belt) wanted .machine .processor .replacement ⌝ }
     ensures highs { λ r. ⌜ r .highs
-        ≡ ran kind charged (now (charges .entry)) (before p timer ram rom belt) wanted .machine .processor .tlbhigh ⌝ }
+        ≡ ran kind (chargingBy charged (now (charges .entry))) (before p timer ram rom belt) wanted .machine .processor .tlbhigh ⌝ }
 {
     let ran = run_of_kind(kind, p, timer, ram, rom, belt, charges, charged, wanted);
     let next = ran.processor;

@@ -52,6 +52,6 @@ abbrev pub ChargesLength : Charging → Type 0
 ChargesLength Uncharged = Unit {0}
 ChargesLength (ChargedBy s) = length s ≡ chargesLength
 
--- what a run is asked can be had
+-- the steps and the list of charges that a run is asked with pass their tests
 abbrev pub Asked : Request → Type 0
 Asked q = Steps (q .wanted) × ChargesLength (q .charging)

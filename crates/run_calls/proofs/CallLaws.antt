@@ -2,7 +2,8 @@
 use mathlib.Core.Path.{_≡_, refl, ap, sym, subst, _∙_}
 use mathlib.Core.Bool.{Bool, true, false, cond}
 use mathlib.Core.List.{List, [], _∷_, _++_}
-use Prim.Native.Nat.{ℕ, _≤_, _<_}
+use Prim.Native.Nat.{ℕ, _*_, _≤_, _<_}
+use native.Mathlib.Nat.{zero-add}
 use native.Mathlib.Omega.{arith}
 use lib.Dec.{eqb}
 use lib.ListN.{length, getD}
@@ -20,15 +21,15 @@ use Rattle.record.proofs.ReadWritten.{machine-written}
 use Rattle.machine.specs.Machine.{Machine}
 use Rattle.refusals.specs.Refusal.{Test, firstFailed, memoryTests, stepsTest, chargesTests, requestTests}
 use Rattle.refusals.proofs.FirstFailed.{joined, all-pass}
-use Rattle.charges.specs.Charges.{Charging, Uncharged}
+use Rattle.charges.specs.Charges.{Charging, Uncharged, mostCharged}
 use Rattle.refusals.specs.Request.{Request, request, withoutCharging}
 use Rattle.refusals.specs.Cause.{AllPass}
 use Rattle.refusals.proofs.Lengths.{charges-numbered, charges-last}
-use Rattle.run_loop.proofs.Charged.{from-uncharged}
-use Rattle.run_loop.specs.Run.{answer, Outcome, begun, runFrom}
+use Rattle.run_loop.proofs.Charged.{sumOf, from-charge, from-bounded, from-uncharged}
+use Rattle.run_loop.specs.Run.{answer, Outcome, begun, stepsFrom, runFrom}
 use Rattle.run_loop.proofs.Loop.{no-step}
 use Rattle.run_loop.proofs.Kept.{run-fit, run-timer-fits}
-use Rattle.run_calls.specs.Runs.{callTests, callRefusal, Called, called, machineIn, recorded, callOf}
+use Rattle.run_calls.specs.Runs.{callTests, callRefusal, Called, called, machineIn, recorded, callSteps, callOf}
 use Rattle.run_calls.specs.Code.{firstOf}
 
 -- the numbers of a refused call
@@ -162,20 +163,45 @@ pub refused-free : (q : Request) (s : List ℕ) (m : Memory) → (callRefusal s 
 unfolding callOf
 refused-free q s m h = simp (ne-eqb (callRefusal s m q) 0 h)
 
+-- ---- the charge: the sum of what the steps cost, and at most their number times the largest charge
+
+module _ (q : Request) (s : List ℕ) (m : Memory) where
+  abbrev start : Outcome
+  start = begun (machineIn s m) 0
+
+  abbrev by : Bool → Called
+  by t = cond t (recorded (runFrom q (q .wanted) start)) (called s m (callRefusal s m q) 0 32 33 0)
+
+  pub call-charge : callOf q s m .answer .charge ≡ sumOf (q .charging) (callSteps q s m)
+  unfolding callOf callSteps sumOf
+  call-charge = go (eqb (callRefusal s m q) 0)
+    where
+      go : (t : Bool) → by t .answer .charge ≡ sumOf (q .charging) (cond t (stepsFrom q (q .wanted) (machineIn s m)) [])
+      go true = from-charge q (q .wanted) start ∙ zero-add (sumOf (q .charging) (stepsFrom q (q .wanted) (machineIn s m)))
+      go false = refl
+
+  pub call-bounded : callOf q s m .answer .charge ≤ callOf q s m .answer .steps * mostCharged (q .charging)
+  unfolding callOf
+  call-bounded = go (eqb (callRefusal s m q) 0)
+    where
+      go : (t : Bool) → by t .answer .charge ≤ by t .answer .steps * mostCharged (q .charging)
+      go true = from-bounded q (q .wanted) start (omega arith)
+      go false = omega arith
+
 -- ---- and one without charging costs nothing, so its charge may be left out
 
 module _ (kind : Bool) (wanted lines : ℕ) (s : List ℕ) (m : Memory) where
-  abbrev free : Request
-  free = request kind wanted lines Uncharged
+  abbrev uncharged : Request
+  uncharged = request kind wanted lines Uncharged
 
-  pub uncharged-free : callOf free s m .answer .charge ≡ 0
+  pub uncharged-free : callOf uncharged s m .answer .charge ≡ 0
   unfolding callOf
-  uncharged-free = go (eqb (callRefusal s m free) 0)
+  uncharged-free = go (eqb (callRefusal s m uncharged) 0)
     where
       go : (t : Bool)
-          → cond t (recorded (runFrom free wanted (begun (machineIn s m) 0))) (called s m (callRefusal s m free) 0 32 33 0) .answer .charge ≡ 0
-      go true = ap (λ (o : Outcome). o .answer .charge) (from-uncharged free wanted (begun (machineIn s m) 0))
+          → cond t (recorded (runFrom uncharged wanted (begun (machineIn s m) 0))) (called s m (callRefusal s m uncharged) 0 32 33 0) .answer .charge ≡ 0
+      go true = ap (λ (o : Outcome). o .answer .charge) (from-uncharged uncharged wanted (begun (machineIn s m) 0))
       go false = refl
 
-  pub left-out : {b : List ℕ} {n : Memory} {x y z w v : ℕ} → called b n x y z w v ≡ callOf free s m → called b n x y z w 0 ≡ callOf free s m
+  pub left-out : {b : List ℕ} {n : Memory} {x y z w v : ℕ} → called b n x y z w v ≡ callOf uncharged s m → called b n x y z w 0 ≡ callOf uncharged s m
   left-out {b} {n} {x} {y} {z} {w} e = ap (called b n x y z w) (sym (ap (λ (c : Called). c .answer .charge) e ∙ uncharged-free)) ∙ e

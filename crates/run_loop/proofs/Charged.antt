@@ -32,6 +32,10 @@ unfolding countedAll sumOf
 all-costs q o [] = sym (add-zero (o .answer .charge))
 all-costs q o (s ∷ ss) = all-costs q (counted q o s) ss ∙ add-assoc (o .answer .charge) (chargeOf (q .charging) (s .event .opcode)) (sumOf (q .charging) ss)
 
+pub from-charge : (q : Request) (n : ℕ) (o : Outcome) → runFrom q n o .answer .charge ≡ o .answer .charge + sumOf (q .charging) (stepsFrom q n (o .machine))
+unfolding runFrom
+from-charge q n o = all-costs q o (stepsFrom q n (o .machine))
+
 -- of every run: a refused one makes no step
 pub run-charge : (q : Request) (m : Machine) → runOf q m .answer .charge ≡ sumOf (q .charging) (stepsOf q m)
 unfolding runOf
@@ -40,10 +44,10 @@ run-charge q m = all-costs q (begun m (runRefusal m q)) (stepsOf q m) ∙ zero-a
 -- ---- the bound
 
 module _ (q : Request) where
-  abbrev Bounded : Outcome → Type 0
+  abbrev pub Bounded : Outcome → Type 0
   Bounded o = o .answer .charge ≤ o .answer .steps * mostCharged (q .charging)
 
-  from-bounded : (n : ℕ) (o : Outcome) → Bounded o → Bounded (runFrom q n o)
+  pub from-bounded : (n : ℕ) (o : Outcome) → Bounded o → Bounded (runFrom q n o)
   unfolding runFrom stepsFrom countedAll
   from-bounded zero o h = h
   from-bounded (suc n) o h =

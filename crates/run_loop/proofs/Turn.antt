@@ -24,7 +24,7 @@ use Rattle.machine.specs.Machine.{Machine}
 use Rattle.look.specs.Look.{lookFrom, opcodeFrom}
 use Rattle.charges.specs.Charges.{chargeOf}
 use Rattle.refusals.specs.Request.{Request}
-use Rattle.step.specs.Step.{surroundingsOf, look, opcodeLooked, done, eidOf, slotOf, completedOf, stepOf}
+use Rattle.step.specs.Step.{surroundingsOf, look, opcodeFetched, done, eidOf, slotOf, completedOpcode, stepOf}
 use Rattle.step.proofs.Looks.{step-done, step-eid, step-slot, step-opcode}
 use Rattle.step.proofs.Named.{named-below}
 use Rattle.step.proofs.IndexLaws.{action-leaves}
@@ -129,7 +129,7 @@ module _ {q : Request} {began m : Machine} {last : Found} {steps eid slot total 
     {seen : ℕ} (s : seen ≡ linesWith (m .timer) (q .lines))
     {a b : Action} (e : b ≡ lookFrom (surroundingsOf m) (m .processor .registers) (m .processor .pc) seen) (told : b ≡ a)
     {opcode : ℕ} (o : opcode ≡ opcodeFrom (surroundingsOf m) (m .processor .pc) seen)
-    {total₁ : ℕ} (sum : (total₁ ≡ total + chargeOf (q .charging) (completedOf opcode a)) × (total₁ ≤ total + 65535))
+    {total₁ : ℕ} (sum : (total₁ ≡ total + chargeOf (q .charging) (completedOpcode opcode a)) × (total₁ ≤ total + 65535))
     {n : Machine} (after : n ≡ done m a) where
   looked : look m (q .lines) ≡ a
   unfolding look
@@ -146,8 +146,8 @@ module _ {q : Request} {began m : Machine} {last : Found} {steps eid slot total 
 
   charged : total₁ ≡ total + chargeOf (q .charging) (stepOf m (q .lines) .event .opcode)
   charged =
-      let same : opcode ≡ opcodeLooked m (q .lines) = o ∙ ap (opcodeFrom (surroundingsOf m) (m .processor .pc)) s in
-      sum .0 ∙ ap (λ (k : ℕ). total + chargeOf (q .charging) k) (ap (λ (k : ℕ). completedOf k a) same ∙ sym (step-opcode m (q .lines) a looked))
+      let same : opcode ≡ opcodeFetched m (q .lines) = o ∙ ap (opcodeFrom (surroundingsOf m) (m .processor .pc)) s in
+      sum .0 ∙ ap (λ (k : ℕ). total + chargeOf (q .charging) k) (ap (λ (k : ℕ). completedOpcode k a) same ∙ sym (step-opcode m (q .lines) a looked))
 
   -- the run goes on
   pub again : ends (q .kind) (eidOf a) ≡ false

@@ -6,7 +6,7 @@ use Rattle.memory.specs.Map.{Memory}
 use Rattle.processor.specs.declared.Processor.{Processor}
 use Rattle.instructions.specs.Action.{Action}
 use Rattle.machine.specs.Machine.{Machine}
-use Rattle.step.specs.Step.{look, opcodeLooked, done, eidOf, slotOf, completedOf, stepOf}
+use Rattle.step.specs.Step.{look, opcodeFetched, done, eidOf, slotOf, completedOpcode, stepOf}
 
 module _ (m : Machine) (lines : ℕ) (a : Action) (e : look m lines ≡ a) where
   pub step-done : stepOf m lines .machine ≡ done m a
@@ -21,9 +21,9 @@ module _ (m : Machine) (lines : ℕ) (a : Action) (e : look m lines ≡ a) where
   unfolding stepOf
   step-slot = ap slotOf e
 
-  pub step-opcode : stepOf m lines .event .opcode ≡ completedOf (opcodeLooked m lines) a
+  pub step-opcode : stepOf m lines .event .opcode ≡ completedOpcode (opcodeFetched m lines) a
   unfolding stepOf
-  step-opcode = ap (completedOf (opcodeLooked m lines)) e
+  step-opcode = ap (completedOpcode (opcodeFetched m lines)) e
 
 -- the three parts of a machine
 pub joined : {p q : Processor} {t u : Timer} {m n : Memory} → p ≡ q → t ≡ u → m ≡ n

@@ -23,7 +23,7 @@ use Rattle.decode.specs.Table.{meanings, executed}
 use Rattle.look.specs.Look.{operandsOf, decoded, noOpcode}
 use Rattle.look.proofs.Looks.{opcode-reads}
 use Rattle.machine.specs.Machine.{Machine}
-use Rattle.step.specs.Step.{surroundingsOf, look, eidOf, completedOf, opcodeLooked, stepOf}
+use Rattle.step.specs.Step.{surroundingsOf, look, eidOf, completedOpcode, opcodeFetched, stepOf}
 use Rattle.step.proofs.Looks.{step-eid, step-opcode}
 use Rattle.step.proofs.StepLaws.{interrupt-first, nothing-before-the-fetch}
 use Rattle.step.proofs.Named.{named-below}
@@ -79,7 +79,7 @@ module _ (m : Machine) (lines : ℕ) where
     does : look m lines ≡ executed (surroundingsOf m) (operandsOf (m .processor .registers) (m .processor .pc) word)
     does = nothing-before-the-fetch m lines quiet ∙ ap (decoded (surroundingsOf m) (m .processor .registers) (m .processor .pc)) e
 
-    completes : (a : Action) → look m lines ≡ a → eidOf a ≡ 32 → completedOf (opcodeLooked m lines) a ≡ opcodeLooked m lines → Completes
+    completes : (a : Action) → look m lines ≡ a → eidOf a ≡ 32 → completedOpcode (opcodeFetched m lines) a ≡ opcodeFetched m lines → Completes
     completes a f none same =
         let legal : Illegal (opcodeOf word) → ⊥ = λ h. let k : _≡_ {A = ℕ} 32 17 = sym none ∙ ap eidOf (sym f ∙ does) ∙ illegal-faults _ _ h in omega arith in
         record {

@@ -24,8 +24,8 @@ unfoldable pub look : Machine → ℕ → Action
 look m lines = lookFrom (surroundingsOf m) (m .processor .registers) (m .processor .pc) (linesWith (m .timer) lines)
 
 -- the opcode of the word that the look fetches, or `noOpcode`
-abbrev pub opcodeLooked : Machine → ℕ → ℕ
-opcodeLooked m lines = opcodeFrom (surroundingsOf m) (m .processor .pc) (linesWith (m .timer) lines)
+abbrev pub opcodeFetched : Machine → ℕ → ℕ
+opcodeFetched m lines = opcodeFrom (surroundingsOf m) (m .processor .pc) (linesWith (m .timer) lines)
 
 -- ---- the action
 
@@ -56,11 +56,11 @@ slotOf (System i) = noSlot
 slotOf (Exception eid address) = noSlot
 
 -- the opcode of the instruction that completes, by that of the word fetched, or `noOpcode`: where an exception is accepted, none completes
-abbrev pub completedOf : ℕ → Action → ℕ
-completedOf opcode (Write n v next slot) = opcode
-completedOf opcode (Store width physical v slot) = opcode
-completedOf opcode (System i) = opcode
-completedOf opcode (Exception eid address) = noOpcode
+abbrev pub completedOpcode : ℕ → Action → ℕ
+completedOpcode opcode (Write n v next slot) = opcode
+completedOpcode opcode (Store width physical v slot) = opcode
+completedOpcode opcode (System i) = opcode
+completedOpcode opcode (Exception eid address) = noOpcode
 
 abbrev pub acted : Machine → Action → Machine
 acted m a =
@@ -87,7 +87,7 @@ pub record Event : Type 0 where
   pub opcode : ℕ
 
 abbrev pub told : ℕ → Action → Event
-told opcode a = record { eid = eidOf a; slot = slotOf a; opcode = completedOf opcode a }
+told opcode a = record { eid = eidOf a; slot = slotOf a; opcode = completedOpcode opcode a }
 
 -- the machine after a step, and the step's event
 pub record Stepped : Type 0 where
@@ -95,7 +95,7 @@ pub record Stepped : Type 0 where
   pub event : Event
 
 unfoldable pub stepOf : Machine → ℕ → Stepped
-stepOf m lines = record { machine = done m (look m lines); event = told (opcodeLooked m lines) (look m lines) }
+stepOf m lines = record { machine = done m (look m lines); event = told (opcodeFetched m lines) (look m lines) }
 
 -- as a contract names it, of what the code answers
 abbrev pub stepped : Machine → ℕ → ℕ → ℕ → Stepped

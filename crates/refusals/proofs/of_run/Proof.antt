@@ -1,4 +1,4 @@
--- `refusals::of_run` meets its contract: the lengths, then fitness, then the steps.
+-- `refusals::of_run` meets its contract: the lengths, then fitness, then the request.
 use mathlib.Core.List.{List, [], _∷_}
 use mathlib.Core.Path.{refl, sym, _∙_}
 use borrow.Author.Tests.{not-true, not-false}

@@ -23,12 +23,12 @@ use Rattle.run_loop.proofs.turns.Statement.{statement}
 use Rattle.run_loop.proofs.turns.Tie as tie
 
 abbrev Inv-loop : tie.InvT-loop
-Inv-loop ram₀ rom belt₀ charges charged wanted lines kind state₀ timer₀ first last₀ steps₀ eid₀ slot₀ total₀ ram belt state timer last steps eid slot total =
-    Going (request kind wanted lines (chargingBy charged charges)) (machine state₀ timer₀ ram₀ rom belt₀)
-    (machine (indexed first steps state) timer ram rom belt) last steps eid slot total
+Inv-loop ram₀ rom belt₀ list charged wanted lines kind state₀ ticking₀ first last₀ steps₀ eid₀ slot₀ total₀ ram belt state ticking last steps eid slot total =
+    Going (request kind wanted lines (chargingBy charged list)) (machine state₀ ticking₀ ram₀ rom belt₀)
+    (machine (indexed first steps state) ticking ram rom belt) last steps eid slot total
 
 abbrev μ-loop : tie.MeasureT-loop
-μ-loop ram₀ rom belt₀ charges charged wanted lines kind state₀ timer₀ first last₀ steps₀ eid₀ slot₀ total₀ ram belt state timer last steps eid slot total =
+μ-loop ram₀ rom belt₀ list charged wanted lines kind state₀ ticking₀ first last₀ steps₀ eid₀ slot₀ total₀ ram belt state ticking last steps eid slot total =
     wanted - steps
 
 loop-holds : tie.Need-loop-holds Inv-loop μ-loop
