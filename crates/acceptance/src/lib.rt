@@ -1,1 +1,2 @@
 // Which calls are refused, and that what a run leaves is accepted: theorems, no code.
+#![tactic(auto)]

@@ -1,4 +1,6 @@
 // Fetch, load and store through the translation (manual, 3.2 and 3.5).
+#![tactic(auto)]
+
 ghost use Rattle.std.specs.Prelude.{◌≡◌};
 ghost use Rattle.tlb.specs.Found.{Serves};
 ghost use Rattle.instructions.specs.Operands.{around};

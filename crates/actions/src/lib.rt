@@ -1,4 +1,6 @@
 // What the actions of a step change of the processor: registers, special registers and the TLB (manual, 3.6).
+#![tactic(auto)]
+
 ghost use Rattle.std.specs.Prelude.{◌≡◌, ◌%◌, get_or};
 ghost use Rattle.processor.specs.Register.{special, written};
 ghost use Rattle.processor.specs.Tlb.{entry_read, searched};

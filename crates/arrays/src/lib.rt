@@ -1,4 +1,6 @@
 // Arrays of words in byte slices, big-endian: read and written over a stride.
+#![tactic(auto)]
+
 ghost use Rattle.std.specs.Prelude.{◌≡◌, ◌+◌, ◌*◌, ◌≤◌, length};
 ghost use Rattle.arrays.specs.Numbers.{words_at, words_put};
 

@@ -1,4 +1,6 @@
 // The line of a step, and a text in a buffer (document 01, "Cases", `beltrun`).
+#![tactic(auto)]
+
 ghost use Rattle.std.specs.Prelude.{cond, ◌≡◌, ◌%◌, ◌+◌, ◌≤◌, ltb, length};
 ghost use Rattle.words.specs.Identifiers.{no_exception};
 ghost use Rattle.belt_text.specs.Line.{hex_digit, decimal_digit, line_of};

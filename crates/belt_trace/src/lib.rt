@@ -1,4 +1,6 @@
 // The text of four steps from reset, a line for each, and the answer to an input that may be short.
+#![tactic(auto)]
+
 ghost use Rattle.std.specs.Prelude.{◌≡◌};
 ghost use Rattle.belt_text.specs.Text.{placed, count_of};
 ghost use Rattle.belt_trace.specs.Trace.{belt_text, answer_of};

@@ -1,4 +1,6 @@
 // Reads a ROM of 4,096 bytes, makes four steps from reset and prints a line for each (document 01, "Cases").
+#![tactic(auto)]
+
 ghost use Rattle.std.specs.Prelude.{cond, ◌≡◌, ltb};
 
 use libc::{STDIN_FILENO, STDOUT_FILENO};

@@ -1,4 +1,6 @@
 // AND, OR, XOR and XNOR of words (manual, 3.3.17 to 3.3.24).
+#![tactic(auto)]
+
 ghost use Rattle.std.specs.Prelude.{◌≡◌};
 ghost use Rattle.bitwise.specs.Bitwise.{and, or, xor, xnor};
 

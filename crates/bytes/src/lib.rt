@@ -1,4 +1,6 @@
 // Byte slices compared, copied, cleared and patched; slices of words compared.
+#![tactic(auto)]
+
 ghost use Rattle.std.specs.Prelude.{◌≡◌, length, replicate};
 ghost use Rattle.bytes.specs.Same.{same};
 ghost use Rattle.bytes.specs.Bytes.{copied, fits, patch};

@@ -1,5 +1,7 @@
 // Document 01's cases that are run, a line for each: lengths, steps, records, page views, each refusal, and their order; and document 02's of
 // the timer, of the replacement index, of the slots and of the charges.
+#![tactic(auto)]
+
 mod charges;
 mod indexes;
 mod lengths;

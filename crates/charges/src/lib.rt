@@ -1,4 +1,6 @@
 // Cycle charges (document 02, job 3): what a step costs, and the sum of a run.
+#![tactic(auto)]
+
 ghost use Rattle.std.specs.Prelude.{◌≡◌, ◌+◌, ◌^◌, ◌≤◌, ◌<◌, length};
 ghost use Rattle.charges.specs.Charges.{charges_length, charge_at, charge_of};
 ghost use Rattle.charges.specs.Code.{charging_by, Whole};

@@ -1,4 +1,6 @@
 // The conditions of the branches (manual, 3.4).
+#![tactic(auto)]
+
 ghost use Rattle.std.specs.Prelude.{◌≡◌};
 ghost use Rattle.comparison.specs.Comparison.{unsigned_holds, signed_holds};
 

@@ -1,4 +1,6 @@
 // The computation instructions (manual, 3.3).
+#![tactic(auto)]
+
 ghost use Rattle.std.specs.Prelude.{◌≡◌, ◌≤◌, get_or};
 ghost use Rattle.instructions.specs.Operands.{operands, into_r, into_y, illegal};
 ghost use Rattle.compute.specs.Compute.{computations, unless_zero};

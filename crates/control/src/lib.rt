@@ -1,4 +1,6 @@
 // The control flow instructions (manual, 3.4).
+#![tactic(auto)]
+
 ghost use Rattle.std.specs.Prelude.{◌≡◌, get_or};
 ghost use Rattle.control.specs.Branches.{target, branch};
 ghost use Rattle.instructions.specs.Operands.{operands, illegal};

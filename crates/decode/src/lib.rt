@@ -1,4 +1,6 @@
 // The decoder (document 01, "One step").
+#![tactic(auto)]
+
 ghost use Rattle.std.specs.Prelude.{◌≡◌};
 ghost use Rattle.instructions.specs.Operands.{operands_in, around};
 ghost use Rattle.decode.specs.Table.{executed};

@@ -1,5 +1,7 @@
 // The charged runs for C: numbers and byte slices, the machine as its record. include/eco32.h documents them. They are a crate of their own, so that
 // the compiler makes one loop for them and another for the runs without charges (docs/SPEED.md).
+#![tactic(auto)]
+
 ghost use Rattle.std.specs.Prelude.{◌≡◌};
 ghost use Rattle.memory.specs.Lent.{lent, left};
 ghost use Rattle.charges.specs.Charges.{ChargedBy};

@@ -1,4 +1,6 @@
 // Big-endian numbers in byte slices: bytes, half-words and words read and written.
+#![tactic(auto)]
+
 ghost use Rattle.std.specs.Prelude.{◌≡◌, ◌+◌, ◌≤◌, ◌<◌, length, get_or};
 ghost use Rattle.endian.specs.BigEndian.{read_at, write_at};
 

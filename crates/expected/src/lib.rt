@@ -1,4 +1,6 @@
 // The expected machine, whose slices are named by an x: cleared and patched, and compared with the model's.
+#![tactic(auto)]
+
 ghost use Rattle.std.specs.Prelude.{◌≡◌};
 ghost use Rattle.machine.specs.Machine.{before};
 ghost use Rattle.expected.specs.Expected.{expected_lent, expected_left, clear, patch_fits, patched, record_agrees, agrees, told_agrees};

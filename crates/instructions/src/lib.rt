@@ -1,4 +1,5 @@
 // The action that an instruction comes to, in four numbers. Nothing here changes the machine: an action is only named.
+#![tactic(auto)]
 
 // Every variant has four numbers, and those that it does not use are 0: this makes for faster code (docs/SPEED.md). The definition
 // `action_of` says what each stands for.

@@ -1,5 +1,7 @@
 // User Mode isolation of every list of runs: definitions and a theorem. The code here computes nothing. Its contracts say what the types of a
 // machine say, as the theorem needs it.
+#![tactic(auto)]
+
 ghost use Rattle.std.specs.Prelude.{◌^◌, ◌<◌};
 ghost use Rattle.machine.specs.Machine.{before, Words32, Bounded, Bytes, Representable};
 

@@ -1,4 +1,6 @@
 // The bits of a word that each special register keeps (document 01, "Closed by us").
+#![tactic(auto)]
+
 ghost use Rattle.std.specs.Prelude.{◌≡◌};
 ghost use Rattle.kept_bits.specs.Kept.{kept_psw, kept_index, kept_high, kept_low, after};
 

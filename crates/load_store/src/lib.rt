@@ -1,4 +1,6 @@
 // The load and the store at a physical address, over the width. The timer answers words.
+#![tactic(auto)]
+
 ghost use Rattle.std.specs.Prelude.{◌≡◌, ◌+◌, ◌≤◌, length};
 ghost use Rattle.memory.specs.Lent.{lent, left};
 ghost use Rattle.endian.specs.BigEndian.{read_at, write_at};

@@ -1,4 +1,6 @@
 // The look: what a step does, named before anything is done. An interrupt comes first, then the instruction at the PC.
+#![tactic(auto)]
+
 ghost use Rattle.std.specs.Prelude.{◌≡◌, ◌≤◌};
 ghost use Rattle.look.specs.Interrupt.{lowest, channel};
 ghost use Rattle.tlb.specs.Found.{Serves};

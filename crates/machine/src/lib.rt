@@ -1,5 +1,7 @@
 // Which processors and timers are fit (document 01, cause 6 of "Refused calls"). The machine itself is a definition alone: in the code
 // processor and timer go by value, and the memory stays with the host.
+#![tactic(auto)]
+
 ghost use Rattle.std.specs.Prelude.{◌≡◌};
 ghost use Rattle.words.specs.Logic.{both};
 ghost use Rattle.kept_bits.specs.Kept.{kept_high, kept_low, only_from};

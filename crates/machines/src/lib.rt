@@ -1,4 +1,6 @@
 // Calls by value, and whether they left the machine and all memory as they were.
+#![tactic(auto)]
+
 mod compare;
 
 ghost use Rattle.std.specs.Prelude.{◌≡◌, get_or};

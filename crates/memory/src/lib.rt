@@ -1,4 +1,5 @@
 // Physical memory: which of RAM, ROM, the belt registers and the timer answers at an address, and what a load and a store answer.
+#![tactic(auto)]
 
 ghost use Rattle.std.specs.Prelude.{◌≡◌};
 ghost use Rattle.memory.specs.Map.{within, place_of};

@@ -1,4 +1,6 @@
 // The page view: the part of the lent RAM behind a virtual page (document 01, "Runs and views").
+#![tactic(auto)]
+
 ghost use Rattle.std.specs.Prelude.{◌≡◌};
 ghost use Rattle.page_view.specs.View.{view_refusal, viewed, no_view, view_of};
 ghost use Rattle.page_view.specs.Part.{view_part, part_ptr};

@@ -1,5 +1,7 @@
 // The processor state, and what changes it: exception entry and return, register writes, the TLB.
 // Each method takes the processor by value and hands back the next; its contract is one equation of whole states.
+#![tactic(auto)]
+
 ghost use Rattle.std.specs.Prelude.{◌≡◌};
 ghost use Rattle.processor.specs.State.{at_reset};
 

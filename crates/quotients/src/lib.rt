@@ -1,4 +1,6 @@
 // Quotients and remainders of words (manual, 3.3.9 to 3.3.16).
+#![tactic(auto)]
+
 ghost use Rattle.std.specs.Prelude.{◌≡◌, unsigned_abs};
 ghost use Rattle.quotients.specs.Quotients.{unsigned_quotient, unsigned_remainder, signed_quotient, signed_remainder};
 ghost use Rattle.quotients.specs.Code.{with_sign};

@@ -1,4 +1,6 @@
 // The machine record: read from and written to a byte slice (document 01, "What the host lends" and "Refused calls").
+#![tactic(auto)]
+
 ghost use Rattle.std.specs.Prelude.{◌≡◌};
 ghost use Rattle.processor.specs.State.{at_reset};
 ghost use Rattle.timer.specs.Timer.{timer_at_reset};

@@ -1,4 +1,6 @@
 // Calls with the machine as its record: reset, the copy that reading and writing are, and the page view.
+#![tactic(auto)]
+
 ghost use Rattle.std.specs.Prelude.{◌≡◌};
 ghost use Rattle.record_calls.specs.Records.{reset_refusal, reset_buffer, copy_refusal, copy_buffer};
 ghost use Rattle.page_view.specs.View.{viewed};

@@ -1,4 +1,6 @@
 // The layout of the machine record: where its kind bytes and numbers stand, and a processor and its timer got from it and put into it.
+#![tactic(auto)]
+
 ghost use Rattle.std.specs.Prelude.{◌≡◌, length, ◌++◌, eqb, drop, take, ◌<◌, ◌≤◌};
 ghost use Rattle.words.specs.Logic.{either};
 ghost use Rattle.endian.specs.BigEndian.{read_at};

@@ -1,4 +1,6 @@
 // Every refusal: its number, and the tests that several calls begin with (document 01, "Refused calls").
+#![tactic(auto)]
+
 ghost use Rattle.std.specs.Prelude.{[], ◌∷◌, ◌++◌, ◌≡◌};
 ghost use Rattle.machine.specs.Machine.{fit_with};
 ghost use Rattle.refusals.specs.Refusal.{first_failed, pages_up_to, ram_accepted, fit_test, steps_test, request_tests, lengths_tests};

@@ -1,4 +1,6 @@
 // A file of test vectors replayed on the model: what each command does, and what is counted.
+#![tactic(auto)]
+
 mod model;
 mod tally;
 

@@ -1,4 +1,6 @@
 // A run of either kind, with the machine as its record.
+#![tactic(auto)]
+
 ghost use Rattle.std.specs.Prelude.{◌≡◌};
 ghost use Rattle.words.specs.Identifiers.{no_exception};
 ghost use Rattle.tlb.specs.Lookup.{no_slot};

@@ -1,4 +1,6 @@
 // The steps of a run, once it is accepted (document 01, "Runs and views").
+#![tactic(auto)]
+
 ghost use Rattle.std.specs.Prelude.{◌≡◌, cond, eqb};
 ghost use Rattle.tlb.specs.Lookup.{no_slot};
 ghost use Rattle.machine.specs.Machine.{before, after};

@@ -1,4 +1,6 @@
 // The two kinds of run (document 01, "Runs and views"), with and without charges (document 02, job 3).
+#![tactic(auto)]
+
 ghost use Rattle.std.specs.Prelude.{◌≡◌};
 ghost use Rattle.machine.specs.Machine.{before, after};
 ghost use Rattle.charges.specs.Charges.{Uncharged, ChargedBy};

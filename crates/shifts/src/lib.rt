@@ -1,4 +1,6 @@
 // Shifts of words, and LDHI (manual, 3.3.25 to 3.3.31).
+#![tactic(auto)]
+
 ghost use Rattle.std.specs.Prelude.{◌≡◌};
 ghost use Rattle.shifts.specs.Shifts.{shift_left, shift_right, shift_arithmetic, load_high};
 

@@ -1,4 +1,6 @@
 // The processor status word (manual, 2.7).
+#![tactic(auto)]
+
 ghost use Rattle.std.specs.Prelude.{◌≡◌};
 ghost use Rattle.status.specs.Psw.{user_mode, pushed, popped};
 

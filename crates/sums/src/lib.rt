@@ -1,4 +1,6 @@
 // Sums, differences and products of words (manual, 3.3.1 to 3.3.8).
+#![tactic(auto)]
+
 ghost use Rattle.std.specs.Prelude.{◌≡◌};
 ghost use Rattle.sums.specs.Sums.{sum, difference, signed_product, unsigned_product};
 

@@ -1,4 +1,6 @@
 // The system instructions (manual, 3.6).
+#![tactic(auto)]
+
 ghost use Rattle.std.specs.Prelude.{◌≡◌, get_or};
 ghost use Rattle.system.specs.System.{privileged, traps, systems};
 ghost use Rattle.system.specs.Code.{illegal_system};

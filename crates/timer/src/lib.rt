@@ -1,5 +1,7 @@
 // The board's timer (manual, chapter 5, section 4; document 02, job 1). One step of the machine is one tick.
 // Each method takes the timer by value; a changed one is handed back whole.
+#![tactic(auto)]
+
 ghost use Rattle.std.specs.Prelude.{◌≡◌};
 ghost use Rattle.timer.specs.Timer.{timer_at_reset, raised, timer_fit, register_read, register_written, ticked, lines_with};
 

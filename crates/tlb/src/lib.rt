@@ -1,5 +1,7 @@
 // The entry of a page in the TLB, looked up or kept from before, and the replacement index (manual, 2.9, 3.6.5 and 3.6.6;
 // document 02, job 4).
+#![tactic(auto)]
+
 ghost use Rattle.std.specs.Prelude.{◌≡◌, cond, leb, get_or};
 ghost use Rattle.tlb.specs.Lookup.{no_entry, lookup, found_index, replacement_after, page_of};
 

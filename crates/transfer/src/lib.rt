@@ -1,4 +1,6 @@
 // Loads and stores (manual, 3.5).
+#![tactic(auto)]
+
 ghost use Rattle.std.specs.Prelude.{◌≡◌, get_or};
 ghost use Rattle.instructions.specs.Operands.{operands, simple, illegal, around};
 ghost use Rattle.words.specs.Numbers.{zero_extend};

@@ -1,4 +1,6 @@
 // The translation of a virtual address to a physical one, or its fault (document 01, "One step"; manual, 2.9).
+#![tactic(auto)]
+
 ghost use Rattle.std.specs.Prelude.{◌≡◌, not, cond, ◌%◌, ltb, eqb, get_or};
 ghost use Rattle.translation.specs.Translation.{bytes_of, through, forbidden, translated, translation_eid};
 ghost use Rattle.translation.specs.declared.Translation.TheVariants.{TlbMiss};

@@ -1,4 +1,6 @@
 // The long set of test vectors: reads the file in parts, replays it on the model, and prints what was counted.
+#![tactic(auto)]
+
 mod report;
 
 ghost use Rattle.std.specs.Prelude.{true, ◌≡◌, ◌-◌, ◌≤◌};
