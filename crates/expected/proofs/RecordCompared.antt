@@ -12,7 +12,7 @@ use Rattle.processor.specs.declared.Processor.{Processor}
 use Rattle.machine.specs.Machine.{fit_with}
 use Rattle.record_layout.specs.Record.{record_of}
 use Rattle.record.specs.Calls.{write_refusal, buffer_after}
-use Rattle.bytes.specs.Same.{same}
+use Rattle.byte_slices.specs.Same.{same}
 use Rattle.expected.specs.Expected.{record_agrees}
 
 pub record_compared : (bytes s : List ℕ) (p : Processor) (t : Timer) → length s ≡ 424

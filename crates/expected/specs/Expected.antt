@@ -10,8 +10,8 @@ use Rattle.processor.specs.State.{at_reset}
 use Rattle.machine.specs.Machine.{Machine, machine, fit_with}
 use Rattle.record_layout.specs.Record.{record_of}
 use Rattle.record.specs.Calls.{processor_read, timer_read, buffer_after}
-use Rattle.bytes.specs.Same.{same}
-use Rattle.bytes.specs.Bytes.{copied, fits, patch}
+use Rattle.byte_slices.specs.Same.{same}
+use Rattle.byte_slices.specs.Bytes.{copied, fits, patch}
 
 -- the bytes of the record, and memory
 pub record Expected : Type 0 where

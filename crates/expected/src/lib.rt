@@ -13,9 +13,9 @@ pub fn clear(xrecord: &mut [u8], xram: &mut [u8], xrom: &mut [u8], xbelt: &mut [
     ensures { expected_left xrecord xram xrom xbelt ≡ clear (expected_lent xrecord xram xrom xbelt) }
 {
     record::write(Processor::reset(), Timer::reset(), xrecord);
-    bytes::clear(xram);
-    bytes::clear(xrom);
-    bytes::clear(xbelt);
+    byte_slices::clear(xram);
+    byte_slices::clear(xrom);
+    byte_slices::clear(xbelt);
 }
 
 // Whether the patch is one of the five kinds and fits; only then it is made.
@@ -32,11 +32,11 @@ pub fn patch(
     ensures bytes { expected_left xrecord xram xrom xbelt ≡ patched (expected_lent xrecord xram xrom xbelt) kind at v }
 {
     match kind {
-        1 => bytes::patch_word(xrecord, at, v),
-        2 => bytes::patch_byte(xrecord, at, v),
-        3 => bytes::patch_word(xram, at, v),
-        4 => bytes::patch_word(xrom, at, v),
-        5 => bytes::patch_word(xbelt, at, v),
+        1 => byte_slices::patch_word(xrecord, at, v),
+        2 => byte_slices::patch_byte(xrecord, at, v),
+        3 => byte_slices::patch_word(xram, at, v),
+        4 => byte_slices::patch_word(xrom, at, v),
+        5 => byte_slices::patch_word(xbelt, at, v),
         _ => false,
     }
 }
@@ -46,7 +46,7 @@ fn record_agrees(p: Processor, timer: Timer, xrecord: &[u8]) -> bool
 {
     let mut written = [0u8; record_layout::LENGTH];
     let refusal = record::write(p, timer, &mut written);
-    (refusal == 0) & bytes::same_bytes(&written, xrecord)
+    (refusal == 0) & byte_slices::same_bytes(&written, xrecord)
 }
 
 // `wanted` has the slot, times 256, and the EID.
@@ -75,7 +75,7 @@ pub fn agree(
 {
     told_agrees(wanted, eid, slot)
         & record_agrees(p, timer, xrecord)
-        & bytes::same_bytes(ram, xram)
-        & bytes::same_bytes(rom, xrom)
-        & bytes::same_bytes(belt, xbelt)
+        & byte_slices::same_bytes(ram, xram)
+        & byte_slices::same_bytes(rom, xrom)
+        & byte_slices::same_bytes(belt, xbelt)
 }

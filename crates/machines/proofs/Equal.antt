@@ -5,7 +5,7 @@ use mathlib.Core.List.{List}
 use Prim.Native.Nat.{ℕ}
 use borrow.Author.Tests.{eqb-true}
 use Rattle.words.proofs.Conjunction.{both_true}
-use Rattle.bytes.proofs.SameLaws.{same_equal, numbers_first, lists_first}
+use Rattle.byte_slices.proofs.SameLaws.{same_equal, numbers_first, lists_first}
 use Rattle.timer.specs.declared.Timer.{Timer}
 use Rattle.processor.specs.declared.Processor.{Processor}
 use Rattle.machine.specs.Machine.{Machine}

@@ -1,7 +1,7 @@
 -- Whether a machine is one that is known, as a test; and the run after which that is asked.
 use Rattle.std.specs.Prelude.{Bool, List, ℕ, eqb}
 use Rattle.words.specs.Logic.{both}
-use Rattle.bytes.specs.Same.{same}
+use Rattle.byte_slices.specs.Same.{same}
 use Rattle.timer.specs.declared.Timer.{Timer}
 use Rattle.processor.specs.declared.Processor.{Processor}
 use Rattle.machine.specs.Machine.{Machine}

@@ -1,7 +1,7 @@
 // Whether two machines are the same: each item of the machine record, RAM and belt.
 ghost use Rattle.std.specs.Prelude.{◌≡◌};
 ghost use Rattle.words.specs.Logic.{both};
-ghost use Rattle.bytes.specs.Same.{same};
+ghost use Rattle.byte_slices.specs.Same.{same};
 ghost use Rattle.machines.specs.Unchanged.{same_special, same_tlb, same_processor, same_timer, same_state};
 
 use processor::Processor;
@@ -24,8 +24,8 @@ fn same_tlb(p: Processor, q: Processor) -> bool
     let other_highs = q.tlbhigh;
     let lows = p.tlblow;
     let other_lows = q.tlblow;
-    bytes::same_words(&highs, &other_highs)
-        & bytes::same_words(&lows, &other_lows)
+    byte_slices::same_words(&highs, &other_highs)
+        & byte_slices::same_words(&lows, &other_lows)
         & (p.replacement == q.replacement)
 }
 
@@ -34,7 +34,7 @@ fn same_processor(p: Processor, q: Processor) -> bool
 {
     let registers = p.registers;
     let others = q.registers;
-    bytes::same_words(&registers, &others) & (p.pc == q.pc) & same_special(p, q) & same_tlb(p, q)
+    byte_slices::same_words(&registers, &others) & (p.pc == q.pc) & same_special(p, q) & same_tlb(p, q)
 }
 
 fn same_timer(t: Timer, u: Timer) -> bool
@@ -52,5 +52,5 @@ pub fn same_state(p: Processor, t: Timer, q: Processor, u: Timer) -> bool
 pub fn same_memory(ramcopy: &[u8], beltcopy: &[u8], ram: &[u8], belt: &[u8]) -> bool
     ensures { result ≡ both (same ramcopy.now ram.now) (same beltcopy.now belt.now) }
 {
-    bytes::same_bytes(ramcopy, ram) & bytes::same_bytes(beltcopy, belt)
+    byte_slices::same_bytes(ramcopy, ram) & byte_slices::same_bytes(beltcopy, belt)
 }

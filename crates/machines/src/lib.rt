@@ -4,7 +4,7 @@
 mod compare;
 
 ghost use Rattle.std.specs.Prelude.{◌≡◌, get_or};
-ghost use Rattle.bytes.specs.Same.{same};
+ghost use Rattle.byte_slices.specs.Same.{same};
 ghost use Rattle.timer.specs.Timer.{timer_at_reset};
 ghost use Rattle.processor.specs.State.{at_reset};
 ghost use Rattle.machine.specs.Machine.{before, after};
@@ -143,7 +143,7 @@ pub fn write(p: Processor, timer: Timer, buffer: &mut [u8], copy: &[u8]) -> Writ
     ensures unchanged { result.unchanged ≡ same copy.now (buffer_after p timer buffer.old) }
 {
     let refusal = record::write(p, timer, buffer);
-    let kept = bytes::same_bytes(copy, &buffer[..]);
+    let kept = byte_slices::same_bytes(copy, &buffer[..]);
     Written {
         refusal: refusal,
         unchanged: kept,

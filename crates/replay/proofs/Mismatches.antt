@@ -13,12 +13,12 @@ use Rattle.words.proofs.Conjunction.{both_true, true_both}
 use Rattle.machine.specs.Machine.{Machine, fit_with}
 use Rattle.record_layout.specs.Record.{record_of}
 use Rattle.replay.specs.declared.Counts.{Counts}
-use Rattle.bytes.specs.Same.{same}
+use Rattle.byte_slices.specs.Same.{same}
 use Rattle.replay.specs.Tally.{raised, case_begun, step_made, end_read, failed, judged}
 use Rattle.expected.specs.Expected.{Expected, told_agrees, record_agrees, memory_agrees, agrees}
 use Rattle.replay.specs.Agreement.{step_agrees}
 use Rattle.replay.specs.Replay.{Replay, good, done, after_judging, commanded, good_at, commanded_at, replayed_from, all_good_from, replayed, finished}
-use Rattle.bytes.proofs.SameLaws.{same_equal, numbers_first, lists_first, same_self}
+use Rattle.byte_slices.proofs.SameLaws.{same_equal, numbers_first, lists_first, same_self}
 
 -- ---- what agreement says
 

@@ -28,9 +28,9 @@ pub fn start(
     ensures state { machine_left result.processor result.timer ram rom belt ≡ started_in (lent ram rom belt) (expected_lent xrecord xram xrom xbelt) }
     ensures counts { result.counts ≡ judged false (eqb (read_refusal xrecord.now) 0) counts }
 {
-    bytes::copy(ram, xram);
-    bytes::copy(rom, xrom);
-    bytes::copy(belt, xbelt);
+    byte_slices::copy(ram, xram);
+    byte_slices::copy(rom, xrom);
+    byte_slices::copy(belt, xbelt);
     let reading = record::read(xrecord);
     let started = reading.processor;
     let clock = reading.timer;

@@ -2,8 +2,8 @@
 #![tactic(auto)]
 
 ghost use Rattle.std.specs.Prelude.{◌≡◌, length, replicate};
-ghost use Rattle.bytes.specs.Same.{same};
-ghost use Rattle.bytes.specs.Bytes.{copied, fits, patch};
+ghost use Rattle.byte_slices.specs.Same.{same};
+ghost use Rattle.byte_slices.specs.Bytes.{copied, fits, patch};
 
 pub fn same_bytes(a: &[u8], b: &[u8]) -> bool
     ensures { result ≡ same a.now b.now }

@@ -1,11 +1,11 @@
--- `bytes::clear` meets its contract, by the laws of SliceLaws.
+-- `byte_slices::clear` meets its contract, by the laws of SliceLaws.
 use native.Mathlib.Omega.{arith}
 use mathlib.Core.Path.{◌≡◌, refl, sym}
 use Prim.Native.Nat.{◌-◌}
 use lib.ListN.{length, replicate, length-replicate, get_or-replicate, length-set}
-use Rattle.bytes.proofs.SliceLaws.{Written, written_more, written_all}
-use Rattle.bytes.proofs.clear.Statement.{statement}
-use Rattle.bytes.proofs.clear.Tie as tie
+use Rattle.byte_slices.proofs.SliceLaws.{Written, written_more, written_all}
+use Rattle.byte_slices.proofs.clear.Statement.{statement}
+use Rattle.byte_slices.proofs.clear.Tie as tie
 
 abbrev invariant-loop : tie.invariant-loop
 invariant-loop s₀ i₀ s i = (length s ≡ length s₀) × Written (replicate (length s₀) 0) s i

@@ -9,7 +9,7 @@ use lib.ListN.{length, get_or, set, take, length-set}
 use lib.Seq.{take_all, take-suc, take-suc-set}
 use borrow.Author.Tests.{eq-eqb, ne_eqb, lt-leb, le-leb}
 use Rattle.endian.specs.BigEndian.{write_at}
-use Rattle.bytes.specs.Bytes.{copied, fits, patch}
+use Rattle.byte_slices.specs.Bytes.{copied, fits, patch}
 
 -- what holds before byte i is written: the bytes before it are those of the list that the slice comes to be
 pub record Written (to s : List ℕ) (i : ℕ) : Type 0 where

@@ -1,8 +1,8 @@
--- `bytes::patch_word` meets its contract, by the laws of SliceLaws.
-use Rattle.bytes.proofs.SliceLaws.{patch_out, patch_in}
+-- `byte_slices::patch_word` meets its contract, by the laws of SliceLaws.
+use Rattle.byte_slices.proofs.SliceLaws.{patch_out, patch_in}
 use borrow.Author.Rules.{rules}
-use Rattle.bytes.proofs.patch_word.Statement.{statement}
-use Rattle.bytes.proofs.patch_word.Tie as tie
+use Rattle.byte_slices.proofs.patch_word.Statement.{statement}
+use Rattle.byte_slices.proofs.patch_word.Tie as tie
 
 returns : tie.Need-returns
 returns c = patch_out 4 _ _ _ c.if1.true

@@ -11,7 +11,7 @@ use lib.Seq.{drop-cons}
 use borrow.Author.Tests.{eq-eqb, ne_eqb, eqb-true}
 use Rattle.words.specs.Logic.{both}
 use Rattle.words.proofs.Conjunction.{both_true, second_false}
-use Rattle.bytes.specs.Same.{same}
+use Rattle.byte_slices.specs.Same.{same}
 
 pub same_equal : (a b : List ℕ) → same a b ≡ true → a ≡ b
 unfolding same

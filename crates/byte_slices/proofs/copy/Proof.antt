@@ -1,11 +1,11 @@
--- `bytes::copy` meets its contract, by the laws of SliceLaws.
+-- `byte_slices::copy` meets its contract, by the laws of SliceLaws.
 use native.Mathlib.Omega.{arith}
 use mathlib.Core.Path.{refl, sym, ◌∙◌}
 use Prim.Native.Nat.{◌-◌}
 use lib.ListN.{length}
-use Rattle.bytes.proofs.SliceLaws.{Written, written_more, written_all, copy_apart, copy_made}
-use Rattle.bytes.proofs.copy.Statement.{statement}
-use Rattle.bytes.proofs.copy.Tie as tie
+use Rattle.byte_slices.proofs.SliceLaws.{Written, written_more, written_all, copy_apart, copy_made}
+use Rattle.byte_slices.proofs.copy.Statement.{statement}
+use Rattle.byte_slices.proofs.copy.Tie as tie
 
 abbrev invariant-loop : tie.invariant-loop
 invariant-loop to₀ from i₀ to i = Written from to i
