@@ -16,7 +16,7 @@ use timer::Timer;
 use translation::{Translation, Width};
 
 // What a read through the translation brings: a value and the slot that served it, or a fault's identifier.
-#[derive(Drop)]
+#[derive(Clone, Copy)]
 pub enum Read {
     Value(u32, u32),
     Fault(u32),

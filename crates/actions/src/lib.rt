@@ -47,7 +47,7 @@ pub fn search(mut p: Processor) -> Processor
 }
 
 // What a register write changes: its register, and the PC.
-#[derive(Drop)]
+#[derive(Clone, Copy)]
 pub struct Change {
     pub value: u32,
     pub pc: u32,

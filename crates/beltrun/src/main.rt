@@ -6,7 +6,7 @@ ghost use Rattle.std.specs.Prelude.{cond, ◌≡◌, ltb};
 use libc::{STDIN_FILENO, STDOUT_FILENO};
 
 // The bytes that were read, and those of the answer to them.
-#[derive(Drop)]
+#[derive(Clone, Copy)]
 pub struct Passed {
     pub read: usize,
     pub written: usize,

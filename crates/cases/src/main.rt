@@ -2,7 +2,7 @@
 // the timer, of the replacement index, of the slots and of the charges.
 #![tactic(auto)]
 
-mod charges;
+mod costs;
 mod indexes;
 mod lengths;
 mod reads;
@@ -24,7 +24,7 @@ fn main() {
     timers::print_timers();
     indexes::print_indexes();
     slots::print_slots();
-    charges::print_charges();
+    costs::print_charges();
     steps::print_order();
     reads::print_reads();
     writes::print_writes();

@@ -3,7 +3,7 @@
 
 // Every variant has four numbers, and those that it does not use are 0: this makes for faster code (docs/SPEED.md). The definition
 // `action_of` says what each stands for.
-#[derive(Drop)]
+#[derive(Clone, Copy)]
 pub enum Coded {
     // A register's number and value, the PC after the instruction, and the slot of a load, or that for none.
     Write(u32, u32, u32, u32),

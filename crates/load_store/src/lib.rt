@@ -57,7 +57,7 @@ fn write(s: &mut [u8], at: usize, width: u32, value: u32)
 }
 
 // Whether something answered a store, and the timer after it.
-#[derive(Drop)]
+#[derive(Clone, Copy)]
 pub struct Settled {
     pub answer: Stored,
     pub timer: Timer,

@@ -44,7 +44,7 @@ pub fn accepted(psw: u32, lines: u32) -> u32
 }
 
 // What a step will do, and the opcode of the word that it fetched, or 64.
-#[derive(Drop)]
+#[derive(Clone, Copy)]
 pub struct Looked {
     pub action: Coded,
     pub opcode: u32,

@@ -18,7 +18,7 @@ use run_loop::Ran;
 use timer::Timer;
 
 // What a run answers; whether the machine is unchanged; and after it register 1, the replacement index and the high words of the TLB.
-#[derive(Drop)]
+#[derive(Clone, Copy)]
 pub struct Outcome {
     pub refusal: u32,
     pub steps: u32,
@@ -32,7 +32,7 @@ pub struct Outcome {
 }
 
 // What reading a record answers; whether processor and timer are the given ones, and whether they are the reset machine's.
-#[derive(Drop)]
+#[derive(Clone, Copy)]
 pub struct Handed {
     pub refusal: u32,
     pub given: bool,
@@ -40,7 +40,7 @@ pub struct Handed {
 }
 
 // What writing a record answers, and whether the buffer is unchanged.
-#[derive(Drop)]
+#[derive(Clone, Copy)]
 pub struct Written {
     pub refusal: u32,
     pub unchanged: bool,

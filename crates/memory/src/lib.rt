@@ -15,7 +15,7 @@ const TIMER_CONTROL: u32 = 0x3000_0000;
 const TIMER_DIVISOR: u32 = 0x3000_0004;
 
 // Where an access goes, with its offset there.
-#[derive(Drop)]
+#[derive(Clone, Copy)]
 pub enum Place {
     Ram(u32),
     Rom(u32),
@@ -24,13 +24,13 @@ pub enum Place {
     Nothing,
 }
 
-#[derive(Drop)]
+#[derive(Clone, Copy)]
 pub enum Loaded {
     Value(u32),
     Timeout,
 }
 
-#[derive(Drop)]
+#[derive(Clone, Copy)]
 pub enum Stored {
     Done,
     Timeout,

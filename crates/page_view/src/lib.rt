@@ -16,7 +16,7 @@ const FRAME_BYTES: u64 = 4096;
 // struct eco32_view: the refusal or 0, the slot that served the lookup, and where the part lies in RAM. Where refused, the slot is 33, and offset
 // and length are 0.
 #[repr(C)]
-#[derive(Drop)]
+#[derive(Clone, Copy)]
 pub struct View {
     pub refusal: u32,
     pub slot: u32,
@@ -66,7 +66,7 @@ pub fn locate(ram: &[u8], p: Processor, page: u64) -> View
 }
 
 // The refusal or 0, the slot that served the lookup, and the part of the lent RAM: 4,096 bytes. Where refused, the slot is 33 and the part empty.
-#[derive(Drop)]
+#[derive(Clone, Copy)]
 pub struct Part<'a> {
     pub refusal: u32,
     pub slot: u32,

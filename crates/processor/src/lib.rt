@@ -14,7 +14,7 @@ mod tlb_write;
 pub type Words = [u32; 32];
 
 // The first five items of the machine record. The special registers are psw to badaddress; TLB entry i is tlbhigh[i], tlblow[i].
-#[derive(Drop)]
+#[derive(Clone, Copy)]
 pub struct Processor {
     pub registers: Words,
     pub pc: u32,

@@ -10,7 +10,7 @@ ghost use Rattle.record.specs.Calls.{processor_unless, timer_unless, machine_ref
 use processor::Processor;
 use timer::Timer;
 
-#[derive(Drop)]
+#[derive(Clone, Copy)]
 pub struct Reading {
     pub refusal: u32,
     pub processor: Processor,

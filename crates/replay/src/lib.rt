@@ -12,7 +12,7 @@ use timer::Timer;
 
 // `turn` counts the steps of the present case, `bad` the commands that are refused. `firstcase` and `firststep` say where the first
 // mismatch was.
-#[derive(Drop)]
+#[derive(Clone, Copy)]
 pub struct Counts {
     pub cases: u32,
     pub steps: u32,
@@ -33,7 +33,7 @@ const STEP: u32 = 7;
 const END: u32 = 8;
 
 // The model's processor and timer, and the counts.
-#[derive(Drop)]
+#[derive(Clone, Copy)]
 pub struct Progress {
     pub processor: Processor,
     pub timer: Timer,

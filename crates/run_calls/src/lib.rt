@@ -15,7 +15,7 @@ use processor::Processor;
 
 // struct eco32_answer
 #[repr(C)]
-#[derive(Drop)]
+#[derive(Clone, Copy)]
 pub struct Answer {
     pub refusal: u32,
     pub steps: u32,
@@ -25,7 +25,7 @@ pub struct Answer {
 
 // struct eco32_charged
 #[repr(C)]
-#[derive(Drop)]
+#[derive(Clone, Copy)]
 pub struct Charged {
     pub refusal: u32,
     pub steps: u32,

@@ -15,7 +15,7 @@ use timer::Timer;
 
 // The processor and the timer after a run; the refusal or 0, the steps made, the exception that ended it, or 32, the slot of the last step, or 33, and
 // the charge of all steps.
-#[derive(Drop)]
+#[derive(Clone, Copy)]
 pub struct Ran {
     pub processor: Processor,
     pub timer: Timer,
@@ -176,7 +176,7 @@ pub fn advance(
 }
 
 // The processor and the timer after a step, the exception that it accepted, or 32, and the slot of its data access, or 33.
-#[derive(Drop)]
+#[derive(Clone, Copy)]
 pub struct Stepped {
     pub processor: Processor,
     pub timer: Timer,

@@ -6,7 +6,7 @@ ghost use Rattle.std.specs.Prelude.{◌≡◌};
 ghost use Rattle.timer.specs.Timer.{timer_at_reset, raised, timer_fit, register_read, register_written, ticked, lines_with};
 
 // Bit 0 of control is the wrap-around flag, bit 1 the interrupt enable.
-#[derive(Drop)]
+#[derive(Clone, Copy)]
 pub struct Timer {
     pub divisor: u32,
     pub counter: u32,

@@ -64,7 +64,7 @@ pub fn index_of(highs: &Words, address: u32) -> usize
 }
 
 // The entry that was looked up last: in a run the next fetch mostly needs the same.
-#[derive(Drop)]
+#[derive(Clone, Copy)]
 pub struct Found {
     pub page: u32,
     pub index: usize,

@@ -11,14 +11,14 @@ use processor::Processor;
 use tlb::Words;
 
 // The size of an access.
-#[derive(Drop)]
+#[derive(Clone, Copy)]
 pub enum Width {
     Byte,
     Half,
     Word,
 }
 
-#[derive(Drop)]
+#[derive(Clone, Copy)]
 pub enum Translation {
     // The physical address, and the slot that served it.
     Physical(u32, u32),
