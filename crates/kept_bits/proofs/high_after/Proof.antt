@@ -1,7 +1,0 @@
--- `kept_bits::high_after` meets its contract, by those of its parts.
-use borrow.Author.Rules.{rules}
-use Rattle.kept_bits.proofs.high_after.Statement.{statement}
-use Rattle.kept_bits.proofs.high_after.Tie as tie
-
-pub high_after_spec : {M : Type 1} → statement M
-high_after_spec = tie.close (tie.spec (λ c κs. search rules) (λ c κs. search rules) (λ c. simp (c.after.ensures, c.before.kept_high.ensures)))
