@@ -6,7 +6,8 @@ use Rattle.quotients.proofs.with_sign.Goals as goal
 
 pub returns-then-x-ge2147483648 : goal.returns-then-x-ge2147483648
 returns-then-x-ge2147483648 c =
-    is_difference c.wrapping_sub_u32.result 0 c.args.m (search rules) c.ranges.m.fits c.wrapping_sub_u32.ensures ∙ sym (minus c.args.x _ c.if-x-ge2147483648.true)
+    is_difference c.wrapping_sub_u32.result 0 c.args.m c.wrapping_sub_u32.type_inv c.ranges.m.fits c.wrapping_sub_u32.ensures.value
+    ∙ sym (minus c.args.x _ c.if-x-ge2147483648.true)
 
 pub returns : goal.returns
 returns c = sym (plus c.args.x c.args.m c.if-x-ge2147483648.false)
