@@ -42,7 +42,7 @@ pub fn read_byte<'a>(
     belt: &[u8],
     address: u32,
 ) -> Read
-    ensures { result ≡ read_from 1 (around psw highs lows timer ram rom belt) address }
+    ensures { result ≡ read_from 1 (around psw highs.now lows.now timer ram.now rom.now belt.now) address }
 {
     let place = translation::translate(psw, highs, lows, Width::Byte, false, address);
     let Translation::Physical(physical, slot) = place else {
@@ -61,7 +61,7 @@ pub fn read_half<'a>(
     belt: &[u8],
     address: u32,
 ) -> Read
-    ensures { result ≡ read_from 2 (around psw highs lows timer ram rom belt) address }
+    ensures { result ≡ read_from 2 (around psw highs.now lows.now timer ram.now rom.now belt.now) address }
 {
     let place = translation::translate(psw, highs, lows, Width::Half, false, address);
     let Translation::Physical(physical, slot) = place else {
@@ -80,7 +80,7 @@ pub fn read_word<'a>(
     belt: &[u8],
     address: u32,
 ) -> Read
-    ensures { result ≡ read_from 4 (around psw highs lows timer ram rom belt) address }
+    ensures { result ≡ read_from 4 (around psw highs.now lows.now timer ram.now rom.now belt.now) address }
 {
     let place = translation::translate(psw, highs, lows, Width::Word, false, address);
     let Translation::Physical(physical, slot) = place else {
@@ -102,7 +102,7 @@ pub fn fetch<'a>(
     pc: u32,
 ) -> Read
     requires { Serves highs.now i pc }
-    ensures { result ≡ read_from 4 (around psw highs lows timer ram rom belt) pc }
+    ensures { result ≡ read_from 4 (around psw highs.now lows.now timer ram.now rom.now belt.now) pc }
 {
     let place = translation::translate_at(psw, highs, lows, i, Width::Word, false, pc);
     let Translation::Physical(physical, slot) = place else {
@@ -134,7 +134,7 @@ pub fn store<'a>(
     value: u32,
     address: u32,
 ) -> Coded
-    ensures { action_of result ≡ store_to (bytes_of width) (around psw highs lows timer ram rom belt) value address }
+    ensures { action_of result ≡ store_to (bytes_of width) (around psw highs.now lows.now timer ram.now rom.now belt.now) value address }
 {
     let bytes = bytes_of(width);
     let place = translation::translate(psw, highs, lows, width, true, address);

@@ -22,9 +22,9 @@ pub fn advance(
     at: usize,
 ) -> Stepped
     requires { at + 14 ≤ length text.old }
-    ensures state { stepped (after result.processor result.timer ram rom belt) result.eid result.slot (step_of (before p timer ram rom belt) 0).event.opcode
-        ≡ step_of (before p timer ram rom belt) 0 }
-    ensures text { text.new ≡ paste text.old at (step_line step (before p timer ram rom belt)) 14 }
+    ensures state { stepped (after result.processor result.timer ram.new rom.now belt.new) result.eid result.slot (step_of (before p timer ram.old rom.now belt.old) 0).event.opcode
+        ≡ step_of (before p timer ram.old rom.now belt.old) 0 }
+    ensures text { text.new ≡ paste text.old at (step_line step (before p timer ram.old rom.now belt.old)) 14 }
 {
     let stepped = run_loop::step(p, timer, ram, rom, belt, 0);
     let next = stepped.processor;

@@ -23,7 +23,7 @@ pub fn execute<'a>(
     word: u32,
     next: u32,
 ) -> Coded
-    ensures { action_of result ≡ executed (around psw highs lows timer ram rom belt) (operands_in registers.now word next) }
+    ensures { action_of result ≡ executed (around psw highs.now lows.now timer ram.now rom.now belt.now) (operands_in registers.now word next) }
 {
     let opcode = word / 0x400_0000;
     let xi = (word / 0x20_0000 % 32) as usize;

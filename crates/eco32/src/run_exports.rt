@@ -16,8 +16,8 @@ pub extern "C" fn eco32_run(
     wanted: u64,
     lines: u16,
 ) -> Answer
-    ensures { called machine.new (left ram rom belt) result.refusal result.steps result.eid result.slot 0
-        ≡ call_of (request plain wanted lines Uncharged) machine.old (lent ram rom belt) }
+    ensures { called machine.new (left ram.new rom.now belt.new) result.refusal result.steps result.eid result.slot 0
+        ≡ call_of (request plain wanted lines Uncharged) machine.old (lent ram.old rom.now belt.old) }
 {
     run_calls::uncharged(machine, ram, rom, belt, wanted, lines, false)
 }
@@ -31,8 +31,8 @@ pub extern "C" fn eco32_run_to_exception(
     wanted: u64,
     lines: u16,
 ) -> Answer
-    ensures { called machine.new (left ram rom belt) result.refusal result.steps result.eid result.slot 0
-        ≡ call_of (request to_exception wanted lines Uncharged) machine.old (lent ram rom belt) }
+    ensures { called machine.new (left ram.new rom.now belt.new) result.refusal result.steps result.eid result.slot 0
+        ≡ call_of (request to_exception wanted lines Uncharged) machine.old (lent ram.old rom.now belt.old) }
 {
     run_calls::uncharged(machine, ram, rom, belt, wanted, lines, true)
 }

@@ -20,8 +20,8 @@ pub extern "C" fn eco32_run_charged(
     wanted: u64,
     lines: u16,
 ) -> Charged
-    ensures { called machine.new (left ram rom belt) result.refusal result.steps result.eid result.slot result.charge
-        ≡ call_of (request plain wanted lines (ChargedBy charges.now)) machine.old (lent ram rom belt) }
+    ensures { called machine.new (left ram.new rom.now belt.new) result.refusal result.steps result.eid result.slot result.charge
+        ≡ call_of (request plain wanted lines (ChargedBy charges.now)) machine.old (lent ram.old rom.now belt.old) }
 {
     run_calls::call(machine, ram, rom, belt, charges, true, wanted, lines, false)
 }
@@ -36,8 +36,8 @@ pub extern "C" fn eco32_run_to_exception_charged(
     wanted: u64,
     lines: u16,
 ) -> Charged
-    ensures { called machine.new (left ram rom belt) result.refusal result.steps result.eid result.slot result.charge
-        ≡ call_of (request to_exception wanted lines (ChargedBy charges.now)) machine.old (lent ram rom belt) }
+    ensures { called machine.new (left ram.new rom.now belt.new) result.refusal result.steps result.eid result.slot result.charge
+        ≡ call_of (request to_exception wanted lines (ChargedBy charges.now)) machine.old (lent ram.old rom.now belt.old) }
 {
     run_calls::call(machine, ram, rom, belt, charges, true, wanted, lines, true)
 }

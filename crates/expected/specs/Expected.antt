@@ -23,10 +23,10 @@ expected bytes ram rom belt = record { bytes = bytes; memory = memory ram rom be
 
 -- in slices lent to a call, at its entry and at its exit
 abbrev pub expected_lent : Lent → Lent → Lent → Lent → Expected
-expected_lent bytes ram rom belt = expected bytes.entry.now ram.entry.now rom.entry.now belt.entry.now
+expected_lent bytes ram rom belt = expected bytes ram rom belt
 
 abbrev pub expected_left : Lent → Lent → Lent → Lent → Expected
-expected_left bytes ram rom belt = expected bytes.exit.now ram.exit.now rom.exit.now belt.exit.now
+expected_left bytes ram rom belt = expected bytes ram rom belt
 
 -- ---- agreement
 

@@ -10,7 +10,7 @@ use timer::Timer;
 
 // The reset machine, and memory of zeros.
 pub fn clear(xrecord: &mut [u8], xram: &mut [u8], xrom: &mut [u8], xbelt: &mut [u8])
-    ensures { expected_left xrecord xram xrom xbelt ≡ clear (expected_lent xrecord xram xrom xbelt) }
+    ensures { expected_left xrecord.new xram.new xrom.new xbelt.new ≡ clear (expected_lent xrecord.old xram.old xrom.old xbelt.old) }
 {
     record::write(Processor::reset(), Timer::reset(), xrecord);
     byte_slices::clear(xram);
@@ -28,8 +28,8 @@ pub fn patch(
     at: u32,
     v: u32,
 ) -> bool
-    ensures fits { result ≡ patch_fits (expected_lent xrecord xram xrom xbelt) kind at }
-    ensures bytes { expected_left xrecord xram xrom xbelt ≡ patched (expected_lent xrecord xram xrom xbelt) kind at v }
+    ensures fits { result ≡ patch_fits (expected_lent xrecord.old xram.old xrom.old xbelt.old) kind at }
+    ensures bytes { expected_left xrecord.new xram.new xrom.new xbelt.new ≡ patched (expected_lent xrecord.old xram.old xrom.old xbelt.old) kind at v }
 {
     match kind {
         1 => byte_slices::patch_word(xrecord, at, v),
@@ -71,7 +71,7 @@ pub fn agree(
     xbelt: &[u8],
     wanted: u32,
 ) -> bool
-    ensures { result ≡ agrees (expected_lent xrecord xram xrom xbelt) wanted (before p timer ram rom belt) eid slot }
+    ensures { result ≡ agrees (expected_lent xrecord.now xram.now xrom.now xbelt.now) wanted (before p timer ram.now rom.now belt.now) eid slot }
 {
     told_agrees(wanted, eid, slot)
         & record_agrees(p, timer, xrecord)

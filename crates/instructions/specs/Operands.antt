@@ -48,7 +48,7 @@ surroundings psw highs lows timer memory = record { psw = psw; highs = highs; lo
 
 -- as a contract names them, of what is lent to a call
 abbrev pub around : ℕ → Lent → Lent → Timer → Lent → Lent → Lent → Surroundings
-around psw highs lows timer ram rom belt = surroundings psw highs.entry.now lows.entry.now timer (lent ram rom belt)
+around psw highs lows timer ram rom belt = surroundings psw highs lows timer (lent ram rom belt)
 
 -- what an instruction does: from its operands alone, or from the surroundings too
 abbrev pub Simple : Type 0

@@ -32,7 +32,7 @@ fn bytes(s: &[u8])
 
 // The theorem speaks of every machine of the code's types: whatever a call is handed is representable.
 pub fn of_types(p: Processor, timer: Timer, ram: &[u8], rom: &[u8], belt: &[u8])
-    ensures { Representable (before p timer ram rom belt) }
+    ensures { Representable (before p timer ram.now rom.now belt.now) }
 {
     let registers = p.registers;
     let tlbhigh = p.tlbhigh;

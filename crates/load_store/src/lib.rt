@@ -32,7 +32,7 @@ fn read(s: &[u8], at: usize, width: u32) -> u32
 }
 
 pub fn load(timer: Timer, ram: &[u8], rom: &[u8], belt: &[u8], width: u32, address: u32) -> Loaded
-    ensures { result ≡ load_of (access_width width) timer (lent ram rom belt) address }
+    ensures { result ≡ load_of (access_width width) timer (lent ram.now rom.now belt.now) address }
 {
     let place = memory::place_of(bytes_of(width), ram.len(), rom.len(), belt.len(), address);
     match place {
@@ -72,9 +72,9 @@ pub fn store(
     address: u32,
     value: u32,
 ) -> Settled
-    ensures answer { result.answer ≡ store_answer (access_width width) (lent ram rom belt) address }
-    ensures timer { result.timer ≡ timer_after (access_width width) timer (lent ram rom belt) address value }
-    ensures contents { left ram rom belt ≡ memory_after (access_width width) (lent ram rom belt) address value }
+    ensures answer { result.answer ≡ store_answer (access_width width) (lent ram.old rom.now belt.old) address }
+    ensures timer { result.timer ≡ timer_after (access_width width) timer (lent ram.old rom.now belt.old) address value }
+    ensures contents { left ram.new rom.now belt.new ≡ memory_after (access_width width) (lent ram.old rom.now belt.old) address value }
 {
     let place = memory::place_of(bytes_of(width), ram.len(), rom.len(), belt.len(), address);
     match place {

@@ -68,8 +68,8 @@ pub fn look_at<'a>(
     lines: u32,
 ) -> Looked
     requires { Serves highs.now i pc }
-    ensures action { action_of result.action ≡ look_from (around psw highs lows timer ram rom belt) registers.now pc lines }
-    ensures opcode { (result.opcode ≡ opcode_from (around psw highs lows timer ram rom belt) pc lines) × (result.opcode ≤ 64) }
+    ensures action { action_of result.action ≡ look_from (around psw highs.now lows.now timer ram.now rom.now belt.now) registers.now pc lines }
+    ensures opcode { (result.opcode ≡ opcode_from (around psw highs.now lows.now timer ram.now rom.now belt.now) pc lines) × (result.opcode ≤ 64) }
 {
     let channel = accepted(psw, lines);
     if channel < Processor::NO_EXCEPTION {

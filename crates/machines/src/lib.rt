@@ -57,8 +57,8 @@ fn run_of_kind(
     charged: bool,
     wanted: u64,
 ) -> Ran
-    ensures { outcome (after result.processor result.timer ram rom belt) result.refusal result.steps result.eid result.slot result.charge
-        ≡ ran kind (charging_by charged charges.now) (before p timer ram rom belt) wanted }
+    ensures { outcome (after result.processor result.timer ram.new rom.now belt.new) result.refusal result.steps result.eid result.slot result.charge
+        ≡ ran kind (charging_by charged charges.now) (before p timer ram.old rom.now belt.old) wanted }
 {
     if charged {
         if kind {
@@ -88,17 +88,17 @@ pub fn run(
     beltcopy: &[u8],
 ) -> Outcome
     ensures answer { answer result.refusal result.steps result.eid result.slot result.charge
-        ≡ (ran kind (charging_by charged charges.now) (before p timer ram rom belt) wanted).answer }
+        ≡ (ran kind (charging_by charged charges.now) (before p timer ram.old rom.now belt.old) wanted).answer }
     ensures unchanged { result.unchanged
         ≡ same_machine p timer ramcopy.now beltcopy.now
-        (ran kind (charging_by charged charges.now) (before p timer ram rom belt) wanted).machine }
+        (ran kind (charging_by charged charges.now) (before p timer ram.old rom.now belt.old) wanted).machine }
     ensures register { result.register
         ≡ get_or
-        (ran kind (charging_by charged charges.now) (before p timer ram rom belt) wanted).machine.processor.registers 1 0 }
+        (ran kind (charging_by charged charges.now) (before p timer ram.old rom.now belt.old) wanted).machine.processor.registers 1 0 }
     ensures replacement { result.replacement
-        ≡ (ran kind (charging_by charged charges.now) (before p timer ram rom belt) wanted).machine.processor.replacement }
+        ≡ (ran kind (charging_by charged charges.now) (before p timer ram.old rom.now belt.old) wanted).machine.processor.replacement }
     ensures highs { result.highs
-        ≡ (ran kind (charging_by charged charges.now) (before p timer ram rom belt) wanted).machine.processor.tlbhigh }
+        ≡ (ran kind (charging_by charged charges.now) (before p timer ram.old rom.now belt.old) wanted).machine.processor.tlbhigh }
 {
     let ran = run_of_kind(kind, p, timer, ram, rom, belt, charges, charged, wanted);
     let next = ran.processor;

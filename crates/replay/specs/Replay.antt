@@ -31,7 +31,7 @@ with_counts p c = record { processor = p.processor; timer = p.timer; counts = c 
 
 -- the model's machine as a call left it, where the call may write the ROM
 abbrev pub machine_left : Processor → Timer → Lent → Lent → Lent → Machine
-machine_left p t ram rom belt = machine p t ram.exit.now rom.exit.now belt.exit.now
+machine_left p t ram rom belt = machine p t ram rom belt
 
 -- the replay in slices lent to a call, at its entry and at its exit; the slices of the expected machine are named by an x
 abbrev pub replay_lent : Progress → Lent → Lent → Lent → Lent → Lent → Lent → Lent → Lent → Lent → Replay

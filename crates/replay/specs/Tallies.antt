@@ -23,10 +23,10 @@ tallies opcodes exceptions = record { opcodes = opcodes; exceptions = exceptions
 
 -- in slices lent to a call, at its entry and at its exit
 abbrev pub tallies_lent : Lent → Lent → Tallies
-tallies_lent opcodes exceptions = tallies opcodes.entry.now exceptions.entry.now
+tallies_lent opcodes exceptions = tallies opcodes exceptions
 
 abbrev pub tallies_left : Lent → Lent → Tallies
-tallies_left opcodes exceptions = tallies opcodes.exit.now exceptions.exit.now
+tallies_left opcodes exceptions = tallies opcodes exceptions
 
 -- a step with this EID, or `no_exception`, of the instruction with this opcode
 unfoldable pub tallied : Tallies → ℕ → ℕ → Tallies

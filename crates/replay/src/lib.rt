@@ -66,8 +66,8 @@ fn command(
     a: u32,
     b: u32,
 ) -> Progress
-    ensures { replay_left result xrecord xram xrom xbelt ram rom belt opcodes exceptions
-        ≡ commanded (replay_lent progress xrecord xram xrom xbelt ram rom belt opcodes exceptions) kind a b }
+    ensures { replay_left result xrecord.new xram.new xrom.new xbelt.new ram.new rom.new belt.new opcodes.new exceptions.new
+        ≡ commanded (replay_lent progress xrecord.old xram.old xrom.old xbelt.old ram.old rom.old belt.old opcodes.old exceptions.old) kind a b }
 {
     let counts = progress.counts;
     if counts.ended {
@@ -124,8 +124,8 @@ pub fn part(
     exceptions: &mut [u32],
     s: &[u8],
 ) -> Progress
-    ensures { replay_left result xrecord xram xrom xbelt ram rom belt opcodes exceptions
-        ≡ replayed s.now (replay_lent progress xrecord xram xrom xbelt ram rom belt opcodes exceptions) }
+    ensures { replay_left result xrecord.new xram.new xrom.new xbelt.new ram.new rom.new belt.new opcodes.new exceptions.new
+        ≡ replayed s.now (replay_lent progress xrecord.old xram.old xrom.old xbelt.old ram.old rom.old belt.old opcodes.old exceptions.old) }
 {
     let mut i = 0;
     while i < s.len() / 8 {

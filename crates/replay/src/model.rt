@@ -25,7 +25,7 @@ pub fn start(
     xrom: &[u8],
     xbelt: &[u8],
 ) -> Progress
-    ensures state { machine_left result.processor result.timer ram rom belt ≡ started_in (lent ram rom belt) (expected_lent xrecord xram xrom xbelt) }
+    ensures state { machine_left result.processor result.timer ram.new rom.new belt.new ≡ started_in (lent ram.old rom.old belt.old) (expected_lent xrecord.now xram.now xrom.now xbelt.now) }
     ensures counts { result.counts ≡ judged false (eqb (read_refusal xrecord.now) 0) counts }
 {
     byte_slices::copy(ram, xram);
@@ -43,7 +43,7 @@ pub fn start(
 
 // The opcode of the word at the PC, or 64.
 fn opcode_at(p: Processor, timer: Timer, ram: &[u8], rom: &[u8], belt: &[u8]) -> u32
-    ensures { result ≡ opcode_at (before p timer ram rom belt) }
+    ensures { result ≡ opcode_at (before p timer ram.now rom.now belt.now) }
 {
     let highs = p.tlbhigh;
     let lows = p.tlblow;
@@ -56,7 +56,7 @@ fn opcode_at(p: Processor, timer: Timer, ram: &[u8], rom: &[u8], belt: &[u8]) ->
 
 // A step that completed by its opcode, another by its exception.
 fn count_step(opcodes: &mut [u32], exceptions: &mut [u32], opcode: u32, eid: u32)
-    ensures { tallies_left opcodes exceptions ≡ tallied (tallies_lent opcodes exceptions) opcode eid }
+    ensures { tallies_left opcodes.new exceptions.new ≡ tallied (tallies_lent opcodes.old exceptions.old) opcode eid }
 {
     if eid == Processor::NO_EXCEPTION {
         tally::raise_at(opcodes, opcode);
@@ -80,13 +80,13 @@ pub fn step(
     xbelt: &[u8],
     wanted: u32,
 ) -> Progress
-    ensures state { after result.processor result.timer ram rom belt
-        ≡ machine_after (before progress.processor progress.timer ram rom belt) lines }
+    ensures state { after result.processor result.timer ram.new rom.now belt.new
+        ≡ machine_after (before progress.processor progress.timer ram.old rom.now belt.old) lines }
     ensures counts { result.counts ≡ judged true
-        (step_agrees (expected_lent xrecord xram xrom xbelt) wanted (before progress.processor progress.timer ram rom belt) lines)
+        (step_agrees (expected_lent xrecord.now xram.now xrom.now xbelt.now) wanted (before progress.processor progress.timer ram.old rom.now belt.old) lines)
         (step_made progress.counts) }
-    ensures tallies { tallies_left opcodes exceptions
-        ≡ step_tallied (tallies_lent opcodes exceptions) (before progress.processor progress.timer ram rom belt) lines }
+    ensures tallies { tallies_left opcodes.new exceptions.new
+        ≡ step_tallied (tallies_lent opcodes.old exceptions.old) (before progress.processor progress.timer ram.old rom.now belt.old) lines }
 {
     let p = progress.processor;
     let timer = progress.timer;

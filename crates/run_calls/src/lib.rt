@@ -71,8 +71,8 @@ pub fn call(
     lines: u16,
     kind: bool,
 ) -> Charged
-    ensures { called machine.new (left ram rom belt) result.refusal result.steps result.eid result.slot result.charge
-        ≡ call_of (request kind wanted lines (charging_by charged charges.now)) machine.old (lent ram rom belt) }
+    ensures { called machine.new (left ram.new rom.now belt.new) result.refusal result.steps result.eid result.slot result.charge
+        ≡ call_of (request kind wanted lines (charging_by charged charges.now)) machine.old (lent ram.old rom.now belt.old) }
 {
     let lengths = refusals::of_lengths(ram.len(), rom.len(), belt.len());
     let reading = record::read_machine(&machine[..]);
@@ -113,8 +113,8 @@ pub fn uncharged(
     lines: u16,
     kind: bool,
 ) -> Answer
-    ensures { called machine.new (left ram rom belt) result.refusal result.steps result.eid result.slot 0
-        ≡ call_of (request kind wanted lines Uncharged) machine.old (lent ram rom belt) }
+    ensures { called machine.new (left ram.new rom.now belt.new) result.refusal result.steps result.eid result.slot 0
+        ≡ call_of (request kind wanted lines Uncharged) machine.old (lent ram.old rom.now belt.old) }
 {
     let made = call(machine, ram, rom, belt, rom, false, wanted, lines, kind);
     Answer {

@@ -52,8 +52,8 @@ fn turns(
     kind: bool,
 ) -> Ran
     requires { Whole charged charges.now }
-    ensures { outcome (after (indexed p.replacement result.steps result.processor) result.timer ram rom belt) result.refusal result.steps result.eid result.slot
-        result.charge ≡ run_from (request kind wanted lines (charging_by charged charges.now)) wanted (begun (before p timer ram rom belt) 0) }
+    ensures { outcome (after (indexed p.replacement result.steps result.processor) result.timer ram.new rom.now belt.new) result.refusal result.steps result.eid result.slot
+        result.charge ≡ run_from (request kind wanted lines (charging_by charged charges.now)) wanted (begun (before p timer ram.old rom.now belt.old) 0) }
 {
     let mut state = p;
     let mut ticking = timer;
@@ -155,8 +155,8 @@ pub fn advance(
     kind: bool,
 ) -> Ran
     requires { Whole charged charges.now }
-    ensures { outcome (after result.processor result.timer ram rom belt) result.refusal result.steps result.eid result.slot
-        result.charge ≡ run_from (request kind wanted lines (charging_by charged charges.now)) wanted (begun (before p timer ram rom belt) 0) }
+    ensures { outcome (after result.processor result.timer ram.new rom.now belt.new) result.refusal result.steps result.eid result.slot
+        result.charge ≡ run_from (request kind wanted lines (charging_by charged charges.now)) wanted (begun (before p timer ram.old rom.now belt.old) 0) }
 {
     let made = turns(
         p, timer, ram, rom, belt, charges, charged, wanted, lines, kind,
@@ -193,8 +193,8 @@ pub fn step(
     belt: &mut [u8],
     lines: u32,
 ) -> Stepped
-    ensures { stepped (after result.processor result.timer ram rom belt) result.eid result.slot (step_of (before p timer ram rom belt) lines).event.opcode
-        ≡ step_of (before p timer ram rom belt) lines }
+    ensures { stepped (after result.processor result.timer ram.new rom.now belt.new) result.eid result.slot (step_of (before p timer ram.old rom.now belt.old) lines).event.opcode
+        ≡ step_of (before p timer ram.old rom.now belt.old) lines }
 {
     let ran = advance(p, timer, ram, rom, belt, rom, false, 1, lines, true);
     let next = ran.processor;

@@ -25,8 +25,8 @@ fn checked(
     lines: u16,
     kind: bool,
 ) -> Ran
-    ensures { outcome (after result.processor result.timer ram rom belt) result.refusal result.steps result.eid result.slot result.charge
-        ≡ run_of (request kind wanted lines (charging_by charged charges.now)) (before p timer ram rom belt) }
+    ensures { outcome (after result.processor result.timer ram.new rom.now belt.new) result.refusal result.steps result.eid result.slot result.charge
+        ≡ run_of (request kind wanted lines (charging_by charged charges.now)) (before p timer ram.old rom.now belt.old) }
 {
     let number = refusals::of_run(
         p,
@@ -73,8 +73,8 @@ pub fn run(
     wanted: u64,
     lines: u16,
 ) -> Ran
-    ensures { outcome (after result.processor result.timer ram rom belt) result.refusal result.steps result.eid result.slot result.charge
-        ≡ run_of (request plain wanted lines Uncharged) (before p timer ram rom belt) }
+    ensures { outcome (after result.processor result.timer ram.new rom.now belt.new) result.refusal result.steps result.eid result.slot result.charge
+        ≡ run_of (request plain wanted lines Uncharged) (before p timer ram.old rom.now belt.old) }
 {
     checked(p, timer, ram, rom, belt, rom, false, wanted, lines, false)
 }
@@ -89,8 +89,8 @@ pub fn run_to_exception(
     wanted: u64,
     lines: u16,
 ) -> Ran
-    ensures { outcome (after result.processor result.timer ram rom belt) result.refusal result.steps result.eid result.slot result.charge
-        ≡ run_of (request to_exception wanted lines Uncharged) (before p timer ram rom belt) }
+    ensures { outcome (after result.processor result.timer ram.new rom.now belt.new) result.refusal result.steps result.eid result.slot result.charge
+        ≡ run_of (request to_exception wanted lines Uncharged) (before p timer ram.old rom.now belt.old) }
 {
     checked(p, timer, ram, rom, belt, rom, false, wanted, lines, true)
 }
@@ -106,8 +106,8 @@ pub fn run_charged(
     wanted: u64,
     lines: u16,
 ) -> Ran
-    ensures { outcome (after result.processor result.timer ram rom belt) result.refusal result.steps result.eid result.slot result.charge
-        ≡ run_of (request plain wanted lines (ChargedBy charges.now)) (before p timer ram rom belt) }
+    ensures { outcome (after result.processor result.timer ram.new rom.now belt.new) result.refusal result.steps result.eid result.slot result.charge
+        ≡ run_of (request plain wanted lines (ChargedBy charges.now)) (before p timer ram.old rom.now belt.old) }
 {
     checked(
         p, timer, ram, rom, belt, charges, true, wanted, lines, false,
@@ -125,8 +125,8 @@ pub fn run_to_exception_charged(
     wanted: u64,
     lines: u16,
 ) -> Ran
-    ensures { outcome (after result.processor result.timer ram rom belt) result.refusal result.steps result.eid result.slot result.charge
-        ≡ run_of (request to_exception wanted lines (ChargedBy charges.now)) (before p timer ram rom belt) }
+    ensures { outcome (after result.processor result.timer ram.new rom.now belt.new) result.refusal result.steps result.eid result.slot result.charge
+        ≡ run_of (request to_exception wanted lines (ChargedBy charges.now)) (before p timer ram.old rom.now belt.old) }
 {
     checked(p, timer, ram, rom, belt, charges, true, wanted, lines, true)
 }

@@ -65,7 +65,7 @@ pub fn transfer<'a>(
     word: u32,
     next: u32,
 ) -> Coded
-    ensures { action_of result ≡ get_or transfers kind (simple illegal) (around psw highs lows timer ram rom belt) (operands x y word next) }
+    ensures { action_of result ≡ get_or transfers kind (simple illegal) (around psw highs.now lows.now timer ram.now rom.now belt.now) (operands x y word next) }
 {
     let n = word / 0x1_0000 % 32;
     let address = sums::add(x, extension::sign_extend_16(word));

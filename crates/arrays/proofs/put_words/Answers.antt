@@ -26,7 +26,7 @@ pub loop-i-preserved : goal.loop-i-preserved
 loop-i-preserved c =
     let args = c.args in (
       omega arith,
-      c.write_word.auto.0 ∙ c.loop-i.invariant.1,
+      c.write_word.auto.s ∙ c.loop-i.invariant.1,
       rw c.write_word.ensures
           (c.loop-i.invariant.2 ∙ put_more c.loop-i.s args.at args.stride c.loop-i.i args.words.now
           c.loop-i-test.true),

@@ -25,7 +25,7 @@ decreases-loop progress₀ xrecord₀ xram₀ xrom₀ xbelt₀ ram₀ rom₀ bel
 loop-holds : tie.Need-loop-init invariant-loop decreases-loop
 loop-holds c =
     let at_good = c.before.before.before.before.before.before.before.before.before.before in
-    begun _ _ (let g = at_good.well-formed.1.1.1.1.1.1.1.1.1.1.0 in omega arith)
+    begun _ _ (let g = at_good.well_formed.1.1.1.1.1.1.1.1.1.1.0 in omega arith)
 
 add-i : tie.Need-overflow-add-i invariant-loop decreases-loop
 add-i c =
