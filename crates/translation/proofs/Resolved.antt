@@ -1,23 +1,17 @@
 -- What a translation comes to: by its physical address, or by the number of its fault.
 use mathlib.Core.Path.{◌≡◌, refl, ap}
-use mathlib.Core.Logic.{⊎_elim}
-use mathlib.Core.List.{[], ◌∷◌}
 use Prim.Native.Nat.{ℕ, ◌≤◌, ◌<◌}
 use native.Mathlib.Omega.{arith}
-use types.Run.{OneOf}
-use denote.Enum.Declared.{tag_of}
-use Rattle.translation.specs.contracts.Translation as T
 use Rattle.translation.specs.Translation.{resolved, translation_eid}
 use Rattle.translation.specs.declared.Translation.{Translation}
 use Rattle.translation.specs.declared.Translation.TheVariants.{Physical, TlbMiss, TlbWrite, TlbInvalid, IllegalAddress, PrivilegedAddress}
 
--- the tag of a variant that is none of the faults
+-- no physical address
 abbrev pub IsFault : Translation → Type 0
-IsFault t = OneOf (1 ∷ 2 ∷ 3 ∷ 4 ∷ 5 ∷ []) (tag_of T.the_type t)
+IsFault t = (x i : ℕ) → t ≡ Physical x i → ⊥
 
 pub not_physical : (x i : ℕ) → IsFault (Physical x i) → ⊥
-not_physical x i h =
-    ⊎_elim (λ e. omega arith) (⊎_elim (λ e. omega arith) (⊎_elim (λ e. omega arith) (⊎_elim (λ e. omega arith) (λ e. omega arith)))) h
+not_physical x i h = h x i refl
 
 -- a fault is no physical address
 pub refused {ℓ} : {A : Type ℓ} {x i : ℕ} (t : Translation) → translation_eid t < 32 → t ≡ Physical x i → A

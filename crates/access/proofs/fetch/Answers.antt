@@ -4,7 +4,7 @@ use Rattle.memory.specs.Access.{access_width}
 use Rattle.access.proofs.fetch.Goals as goal
 
 pub returns-in_default : goal.returns-in_default
-returns-in_default c = to_a_fault 4 _ _ c.translate_at-place.ensures c.in_default.in_default-own.keys2 c.eid_of.ensures
+returns-in_default c = to_a_fault 4 _ _ c.translate_at-place.ensures c.in_default.not-Physical c.eid_of.ensures
 
 pub returns : goal.returns
 unfolding access_width

@@ -12,7 +12,7 @@ unfolding store_to
 returns-in_default c =
     let args = c.args in
     ap (λ e. Exception e args.address) c.eid_of.ensures ∙ store_fault (bytes_of args.width)
-    (memory args.ram.now args.rom.now args.belt.now) args.value args.address c.translate-place.result c.in_default.in_default-own.keys2 ∙
+    (memory args.ram.now args.rom.now args.belt.now) args.value args.address c.translate-place.result c.in_default.not-Physical ∙
     ap (store_through (bytes_of args.width) (memory args.ram.now args.rom.now args.belt.now) args.value args.address)
     c.translate-place.ensures
 

@@ -219,7 +219,7 @@ returns-in-11 c = simp (c.in-11.is, c.divided-in-11.ensures, c.divide_unsigned-i
 
 pub returns-in-12 : goal.returns-in-12
 unfolding computations
-returns-in-12 c = simp (c.in-12.is, c.divided-in-12.ensures, c.remainder_Signed.ensures)
+returns-in-12 c = simp (c.in-12.is, c.divided-in-12.ensures, c.remainder_signed.ensures)
 
 pub returns-in-13 : goal.returns-in-13
 unfolding computations
@@ -227,7 +227,7 @@ returns-in-13 c = simp (c.in-13.is, c.divided-in-13.ensures, c.remainder_signed-
 
 pub returns-in-14 : goal.returns-in-14
 unfolding computations
-returns-in-14 c = simp (c.in-14.is, c.divided-in-14.ensures, c.remainder_Unsigned.ensures)
+returns-in-14 c = simp (c.in-14.is, c.divided-in-14.ensures, c.remainder_unsigned.ensures)
 
 pub returns-in-15 : goal.returns-in-15
 unfolding computations

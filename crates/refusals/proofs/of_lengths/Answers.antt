@@ -4,26 +4,24 @@ use borrow.Author.Tests.{not-true, not-false, eq-eqb, ne_eqb}
 use Rattle.refusals.proofs.of_lengths.Goals as goal
 
 pub returns-then-not-ram_accepted : goal.returns-then-not-ram_accepted
-returns-then-not-ram_accepted c = simp (sym c.ram_accepted.ensures ∙ not-true _ c.if-not-ram_accepted.true)
+returns-then-not-ram_accepted c = simp (sym c.ram_accepted.ensures ∙ c.if-not-ram_accepted.true)
 
 pub returns-then-not-whole_pages : goal.returns-then-not-whole_pages
 returns-then-not-whole_pages c =
-    simp (sym c.ram_accepted.ensures ∙ not-false _ c.if-not-ram_accepted.false, sym c.whole_pages.ensures ∙ not-true _ c.if-not-whole_pages.true)
+    simp (sym c.ram_accepted.ensures ∙ c.if-not-ram_accepted.false, sym c.whole_pages.ensures ∙ c.if-not-whole_pages.true)
 
 pub returns-then-belt-ne-BELT : goal.returns-then-belt-ne-BELT
 returns-then-belt-ne-BELT c =
     simp (
-      sym c.ram_accepted.ensures ∙ not-false _ c.if-not-ram_accepted.false,
-      sym c.whole_pages.ensures ∙ not-false _
-          c.if-not-whole_pages.false,
+      sym c.ram_accepted.ensures ∙ c.if-not-ram_accepted.false,
+      sym c.whole_pages.ensures ∙ c.if-not-whole_pages.false,
       ne_eqb _ _ c.if-belt-ne-BELT.true,
     )
 
 pub returns : goal.returns
 returns c =
     simp (
-      sym c.ram_accepted.ensures ∙ not-false _ c.if-not-ram_accepted.false,
-      sym c.whole_pages.ensures ∙ not-false _
-          c.if-not-whole_pages.false,
+      sym c.ram_accepted.ensures ∙ c.if-not-ram_accepted.false,
+      sym c.whole_pages.ensures ∙ c.if-not-whole_pages.false,
       eq-eqb _ _ c.if-belt-ne-BELT.false,
     )

@@ -18,12 +18,12 @@ pub returns-then-not-is_fit_with : goal.returns-then-not-is_fit_with
 returns-then-not-is_fit_with c =
     let fine = fit_test (fit_with c.args.p c.args.timer) in
     let asked : List Test = request_tests c.args.wanted (charging_by c.args.charged c.args.charges.now) in
-    fails fine asked (sym c.is_fit_with.ensures ∙ not-true _ c.if-not-is_fit_with.true) ∙ first_passes
+    fails fine asked (sym c.is_fit_with.ensures ∙ c.if-not-is_fit_with.true) ∙ first_passes
     (lengths_tests c.args.ram c.args.rom c.args.belt) (fine ∷ asked) refl c.of_lengths-lengths.ensures c.if-lengths-ne-ACCEPTED.false
 
 pub returns : goal.returns
 returns c =
     let fine = fit_test (fit_with c.args.p c.args.timer) in
     let asked : List Test = request_tests c.args.wanted (charging_by c.args.charged c.args.charges.now) in
-    c.of_request.ensures ∙ goes_on fine asked (sym c.is_fit_with.ensures ∙ not-false _ c.if-not-is_fit_with.false) ∙ first_passes
+    c.of_request.ensures ∙ goes_on fine asked (sym c.is_fit_with.ensures ∙ c.if-not-is_fit_with.false) ∙ first_passes
     (lengths_tests c.args.ram c.args.rom c.args.belt) (fine ∷ asked) refl c.of_lengths-lengths.ensures c.if-lengths-ne-ACCEPTED.false
