@@ -105,7 +105,7 @@ pub fn page_view<'a>(ram: &'a [u8], p: Processor, page: u64) -> Part<'a>
     ensures { (result.refusal ≡ view_refusal ram.now p page)
         × (result.slot ≡ (view_of ram.now p page).slot)
         × (result.part.now ≡ view_part ram.now p page)
-        × (result.part.ptr ≡ part_ptr ram.entry.ref_ptr ram.now p page) }
+        × (result.part.ref_ptr ≡ part_ptr ram.entry.ref_ptr ram.now p page) }
 {
     Part {
         refusal: refusal_of(ram, p, page),
