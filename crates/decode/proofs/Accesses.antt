@@ -93,7 +93,7 @@ loads width extend s o =
 stores : (width : ℕ) → Always Accesses (store width)
 unfolding store_to
 stores width s o =
-    walk _ _ (Accesses s o) (translated s.psw s.highs s.lows width true (address_of o))
+    walk _ (λ eid. Exception eid (address_of o)) (Accesses s o) (translated s.psw s.highs s.lows width true (address_of o))
     (λ a slot e. settles s o width a o.y slot (store_answer width s.memory a)
     (record { width = width; writes = true; physical = a; granted = e }, refl, refl, refl))
     (λ eid low high. inr (low, high))

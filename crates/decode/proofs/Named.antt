@@ -45,7 +45,7 @@ settled_named width physical value slot address stored.Timeout = omega arith
 
 store_named : (width : ℕ) (m : Memory) (value address : ℕ) (t : Translation) → Named (store_through width m value address t)
 store_named width m value address t =
-    walk _ _ Named t (λ a slot e. settled_named width a value slot address (store_answer width m a)) (λ eid low high. high)
+    walk _ (λ eid. Exception eid address) Named t (λ a slot e. settled_named width a value slot address (store_answer width m a)) (λ eid low high. high)
 
 pub stores_named : (width : ℕ) (s : Surroundings) (value address : ℕ) → Named (store_to width s value address)
 unfolding store_to

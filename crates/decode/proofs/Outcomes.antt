@@ -115,7 +115,7 @@ module _ (s : Surroundings) (o : Operands) where
     through_stores : (value address : ℕ) (t : Translation) → translated s.psw s.highs s.lows width true address ≡ t
         → Stores (store_through width s.memory value address t)
     through_stores value address t e =
-        walk _ _ Stores t (λ a slot granted. settled_stores width a value slot address (store_answer width s.memory a)
+        walk _ (λ eid. Exception eid address) Stores t (λ a slot granted. settled_stores width a value slot address (store_answer width s.memory a)
         (record { blocks = blocks; divides = d; own = own; address = address; granted = e ∙ granted })) (λ eid low high. tt)
 
     stores_stores : (value address : ℕ) → Stores (store_to width s value address)

@@ -67,7 +67,7 @@ settled_small width physical value slot address stored.Timeout h = h
 store_small : (width : ℕ) (m : Memory) (value address : ℕ) (t : Translation) → address < 2 ^ 32
     → Small (store_through width m value address t)
 store_small width m value address t h =
-    walk _ _ Small t (λ a slot e. settled_small width a value slot address (store_answer width m a) h) (λ eid low high. h)
+    walk _ (λ eid. Exception eid address) Small t (λ a slot e. settled_small width a value slot address (store_answer width m a) h) (λ eid low high. h)
 
 pub stores_small : (width : ℕ) (s : Surroundings) (value address : ℕ) → address < 2 ^ 32 → Small (store_to width s value address)
 unfolding store_to
