@@ -1,0 +1,6 @@
+-- `isolation::elements` meets its contract: an element of a slice is a value of its type.
+
+use Rattle.isolation.proofs.elements.Goals as goal
+
+pub returns : goal.returns
+returns c = (c.shared_slice_known-1.given i).fits

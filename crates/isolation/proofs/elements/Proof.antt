@@ -1,7 +1,0 @@
--- `isolation::elements` meets its contract: an element of a slice is a value of its type.
-use borrow.Author.Rules.{rules}
-use Rattle.isolation.proofs.elements.Statement.{statement}
-use Rattle.isolation.proofs.elements.Tie as tie
-
-pub elements_spec : {M : Type 1} → statement M
-elements_spec = tie.close (tie.spec (λ c κs. search rules) (λ c i h. (c.before.shared-slice-known.given i).fits))

@@ -1,0 +1,10 @@
+-- `machines::read` meets its contract.
+
+use Rattle.machines.proofs.read.Goals as goal
+
+pub returns : goal.returns
+returns c =
+    let (refusal, (processor, timer)) = c.read-reading.ensures in
+    let p = c.reset.ensures in
+    let t = c.reset-2.ensures in
+    record { refusal = refusal; given = rw (c.same_state-given.ensures, processor, timer); reset = rw (c.same_state-reset.ensures, p, t, processor, timer) }
