@@ -6,15 +6,13 @@ use Rattle.belt_trace.proofs.answer.Goals as goal
 
 pub returns-then-input-lt4096 : goal.returns-then-input-lt4096
 returns-then-input-lt4096 c =
-    
-    let (count, text) = rw (answer_short _ c.if-input-lt4096.true) c.short_input.ensures in
-    record { count = count; text = text }
+    let is = answer_short _ c.if-input-lt4096.true in
+    record { count = rw is c.short_input.ensures.count; text = rw is c.short_input.ensures.text }
 
 pub slice_bounds-trace-end : goal.slice_bounds-trace-end
 slice_bounds-trace-end c = sym (length-take-le 4096 c.args.input.now c.if-input-lt4096.false)
 
 pub returns : goal.returns
 returns c =
-    
-    let (count, text) = rw (answer_full _ c.if-input-lt4096.false) c.trace.ensures in
-    record { count = count; text = text }
+    let is = answer_full _ c.if-input-lt4096.false in
+    record { count = rw is c.trace.ensures.count; text = rw is c.trace.ensures.text }

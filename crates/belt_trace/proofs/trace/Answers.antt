@@ -5,12 +5,12 @@ use Prim.Native.Nat.{◌-◌}
 use Rattle.belt_step.proofs.LineLaws.{machine_of_step}
 use Rattle.belt_text.proofs.TextLaws.{no_room, room}
 use Rattle.belt_trace.proofs.Lines.{started, fits, more, four, text_length}
+use Rattle.belt_trace.specs.Trace.{belt_text}
 use Rattle.belt_trace.proofs.trace.Goals as goal
 
 pub returns-then-text-lt56 : goal.returns-then-text-lt56
 returns-then-text-lt56 c =
-    
-    let (count, text) = no_room 56 _ _ (text_length _) c.if-text-lt56.true in
+    let (count, text) = no_room 56 (belt_text c.args.rom.now) c.args.text.now (text_length _) c.if-text-lt56.true in
     record { count = count; text = text }
 
 pub loop-step-init : goal.loop-step-init
@@ -39,14 +39,14 @@ loop-step-smaller c =
 
 pub loop-step-preserved : goal.loop-step-preserved
 loop-step-preserved c =
-    let (_, (_, (ram, (_, (belt, (_, (text, _))))))) = c.advance-stepped.auto in
+    let kept = c.advance-stepped.auto in
     more c.loop-step.invariant c.loop-step-test.true (machine_of_step _ c.advance-stepped.ensures.state) c.advance-stepped.ensures.text
-    text ram belt
+    kept.text kept.ram kept.belt
 
 pub shape_of-text : goal.shape_of-text
 shape_of-text c = c.loop-step.invariant.kept
 
 pub returns : goal.returns
 returns c =
-    let (count, text) = room 56 _ _ (text_length _) c.if-text-lt56.false in
+    let (count, text) = room 56 (belt_text c.args.rom.now) c.args.text.now (text_length _) c.if-text-lt56.false in
     record { count = count; text = four c.loop-step.invariant c.loop-step-test.false ∙ text }
