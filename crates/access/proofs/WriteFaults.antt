@@ -1,5 +1,5 @@
 -- A translation that is no physical address comes to its fault; and what each place of a store comes to.
-use mathlib.Core.Path.{◌≡◌, refl, ap, sym, ◌∙◌}
+use mathlib.Core.Path.{◌≡◌, ap, sym, ◌∙◌}
 use Prim.Native.Nat.{ℕ}
 use Rattle.translation.specs.Translation.{translation_eid}
 use Rattle.translation.specs.declared.Translation.{Translation}

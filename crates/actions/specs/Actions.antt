@@ -1,5 +1,4 @@
 -- Actions that are more than one method of the processor (manual, 3.5 and 3.6).
-use Rattle.std.specs.Prelude.{ℕ}
 use Rattle.sums.specs.Sums.{sum}
 use Rattle.processor.specs.declared.Processor.{Processor}
 use Rattle.instructions.specs.Action.{Action, Write, Store, System, Exception, SystemInstruction, Rfx, Mvfs, Mvts, Tbs, Tbwr, Tbri, Tbwi}

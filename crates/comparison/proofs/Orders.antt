@@ -1,7 +1,7 @@
 -- Adding 2 ^ 31 modulo 2 ^ 32 turns the signed order of two words into the unsigned one.
 use mathlib.Core.Path.{◌≡◌, refl, ap, sym, ◌∙◌}
 use mathlib.Core.Bool.{Bool, true, false, not}
-use Prim.Native.Nat.{ℕ, suc, ◌+◌, ◌-◌, ◌%◌, ◌^◌, ◌≤◌, ◌<◌}
+use Prim.Native.Nat.{ℕ, ◌+◌, ◌-◌, ◌%◌, ◌^◌, ◌<◌}
 use native.Mathlib.Omega.{arith}
 use lib.Dec.{ltb, leb, eqb}
 use lib.Signed.{lt_z, le_z}
@@ -12,7 +12,7 @@ use Rattle.sums.specs.Sums.{sum}
 use Rattle.comparison.specs.Comparison.{unsigned_holds, signed_holds}
 use Rattle.comparison.specs.declared.Order.{Order}
 use Rattle.comparison.specs.declared.Order.TheVariants.{Equal, NotEqual, LessOrEqual, Less, GreaterOrEqual, Greater}
-use Rattle.words.proofs.Cases.{below_or_not, same_ltb, same_leb}
+use Rattle.words.proofs.Cases.{below_or_not, same_ltb}
 use Rattle.words.proofs.Integers.{by_signs}
 
 leb_not : (m n : ℕ) → leb m n ≡ not (ltb n m)

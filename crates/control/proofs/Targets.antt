@@ -1,7 +1,7 @@
 -- A target by the code's shift and sum: four times the offset is taken modulo 2 ^ 32 before it is added.
 use mathlib.Core.Path.{◌≡◌, refl, ap, ◌∙◌}
 use mathlib.Core.Bool.{true, false}
-use Prim.Native.Nat.{ℕ, ◌+◌, ◌*◌, ◌%◌, ◌^◌}
+use Prim.Native.Nat.{ℕ, ◌+◌, ◌*◌, ◌%◌}
 use native.Mathlib.Nat.{mul_comm, add-mod-mod}
 use Rattle.words.specs.Numbers.{truncate, sign_extend}
 use Rattle.sums.specs.Sums.{sum}

@@ -1,6 +1,6 @@
 -- The opcode table: the six opcode bits choose among 61 instructions (document 01, "One step").
-use Rattle.std.specs.Prelude.{List, [], ◌∷◌, ◌++◌, map, ℕ, get_or}
-use Rattle.instructions.specs.Operands.{Meaning, Surroundings, Operands, simple, illegal, opcode_of}
+use Rattle.std.specs.Prelude.{List, ◌++◌, map, get_or}
+use Rattle.instructions.specs.Operands.{Meaning, simple, illegal, opcode_of}
 use Rattle.compute.specs.Compute.{computations}
 use Rattle.control.specs.Control.{controls}
 use Rattle.transfer.specs.Transfer.{transfers}

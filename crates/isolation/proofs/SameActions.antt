@@ -4,7 +4,7 @@ use mathlib.Core.List.{List, [], ◌∷◌}
 use Prim.Native.Nat.{ℕ, ◌*◌}
 use Rattle.timer.specs.declared.Timer.{Timer}
 use Rattle.memory.specs.Map.{Memory}
-use Rattle.instructions.specs.Operands.{Surroundings, surroundings, Operands, Simple, Meaning, simple, illegal, opcode_of, field_y}
+use Rattle.instructions.specs.Operands.{Surroundings, surroundings, Operands, Simple, Meaning, simple, opcode_of, field_y}
 use Rattle.compute.specs.Compute.{computations}
 use Rattle.control.specs.Control.{controls}
 use Rattle.access.specs.Reads.{read_from}

@@ -1,21 +1,19 @@
 -- In User Mode the look depends on the processor, the timer, the sizes and the reached frames alone.
 use mathlib.Core.Path.{◌≡◌, refl, ap, sym, subst, ◌∙◌}
 use mathlib.Core.Bool.{Bool, true, false, cond}
-use mathlib.Core.List.{List}
-use Prim.Native.Nat.{ℕ, ◌+◌, ◌*◌, ◌/◌, ◌%◌, ◌<◌}
+use Prim.Native.Nat.{ℕ, ◌+◌, ◌*◌, ◌%◌, ◌<◌}
 use native.Mathlib.Nat.{mul_assoc, mul-mod_left, mul-add-mod_self_right, mod-mod_of_dvd, dvd_of_mod-eq-zero}
 use native.Mathlib.Omega.{arith}
 use lib.Dec.{ltb}
-use lib.ListN.{length, get_or}
 use Rattle.timer.specs.Timer.{lines_with}
 use Rattle.timer.specs.declared.Timer.{Timer}
-use Rattle.memory.specs.Map.{Memory, place_in, byte_at}
-use Rattle.memory.specs.Access.{load_of, store_answer, completes}
+use Rattle.memory.specs.Map.{Memory}
+use Rattle.memory.specs.Access.{store_answer, completes}
 use Rattle.memory.proofs.Frames.{one_frame}
 use Rattle.memory.proofs.OwnBytes.{Apart, SameLengths, load_same, same_place}
 use Rattle.status.specs.Psw.{user_mode}
 use Rattle.look.specs.Interrupt.{channel}
-use Rattle.tlb.specs.Lookup.{page_of, lookup}
+use Rattle.tlb.specs.Lookup.{page_of}
 use Rattle.translation.specs.Translation.{frame_of, translated}
 use Rattle.processor.specs.declared.Processor.{Processor}
 use Rattle.translation.specs.declared.Translation.{Translation}
@@ -24,10 +22,9 @@ use Rattle.translation.proofs.Granted.{Granted, user_granted}
 use Rattle.instructions.specs.Operands.{Surroundings, surroundings}
 use Rattle.access.specs.Reads.{answered, read_through, read_from}
 use Rattle.access.specs.Writes.{settled, store_through, store_to}
-use Rattle.instructions.specs.Action.{Action, Exception}
+use Rattle.instructions.specs.Action.{Exception}
 use Rattle.access.specs.declared.Read.{Read}
 use Rattle.access.specs.declared.Read.TheVariants.{Value, Fault}
-use Rattle.machine.specs.Machine.{Machine}
 use Rattle.look.specs.Look.{operands_of, decoded, look_from, no_opcode, opcode_read, opcode_from}
 use Rattle.step.specs.Step.{look, opcode_fetched}
 use Rattle.isolation.specs.Frames.{frame_at, low_word, ValidUserPage, Reached, ReachedWritable, SameIn}

@@ -9,7 +9,7 @@ use lib.ListN.{get_or}
 use Rattle.timer.specs.Timer.{ticked, lines_with}
 use Rattle.timer.specs.declared.Timer.{Timer}
 use Rattle.memory.specs.Map.{Memory, timer_base}
-use Rattle.memory.specs.Access.{access_width, memory_after, timer_after}
+use Rattle.memory.specs.Access.{access_width, memory_after}
 use Rattle.memory.proofs.OwnBytes.{Apart}
 use Rattle.memory.proofs.StoreLaws.{store_lengths, store_rom, store_keeps, store_keeps_timer, timer_after_same}
 use Rattle.status.specs.Psw.{pushed}

@@ -1,7 +1,7 @@
 -- The accepted channel is the lowest one that is ready, and there is none otherwise.
 use mathlib.Core.Path.{◌≡◌, refl, ap, sym, ◌∙◌}
 use mathlib.Core.Bool.{Bool, true, false, cond}
-use Prim.Native.Nat.{ℕ, zero, suc, ◌+◌, ◌*◌, ◌/◌, ◌%◌, ◌^◌, ◌≤◌, ◌<◌, min}
+use Prim.Native.Nat.{ℕ, zero, suc, ◌+◌, ◌*◌, ◌/◌, ◌%◌, ◌^◌, ◌<◌, min}
 use native.Mathlib.Nat.{zero-add, add-zero, add-suc, suc-add, div-one, div-div-eq-div-mul, zero-div, lt_of_le_of_lt, pow-suc, pow-succ'}
 use native.Mathlib.Omega.{arith}
 use lib.Bits.{bit_and, and_le_r}

@@ -1,5 +1,4 @@
 -- A representable machine from its fourteen facts.
-use mathlib.Core.List.{List}
 use Prim.Native.Nat.{ℕ, ◌^◌, ◌<◌}
 use Rattle.timer.specs.Timer.{TimerWords}
 use Rattle.machine.specs.Machine.{Machine, Words32, Bytes, Representable}

@@ -34,7 +34,10 @@ fn same_processor(p: Processor, q: Processor) -> bool
 {
     let registers = p.registers;
     let others = q.registers;
-    byte_slices::same_words(&registers, &others) & (p.pc == q.pc) & same_special(p, q) & same_tlb(p, q)
+    byte_slices::same_words(&registers, &others)
+        & (p.pc == q.pc)
+        & same_special(p, q)
+        & same_tlb(p, q)
 }
 
 fn same_timer(t: Timer, u: Timer) -> bool

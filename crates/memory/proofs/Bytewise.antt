@@ -1,5 +1,5 @@
 -- In memory that holds bytes, with a timer that holds words, a load brings a number of its width, and a store leaves both so.
-use mathlib.Core.Path.{◌≡◌, refl, sym, subst}
+use mathlib.Core.Path.{refl, sym, subst}
 use Prim.Native.Nat.{ℕ, ◌^◌, ◌≤◌, ◌<◌}
 use lib.ListN.{length, get_or}
 use Rattle.timer.specs.declared.Timer as timer

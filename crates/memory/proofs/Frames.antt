@@ -1,6 +1,6 @@
 -- An aligned access lies in one frame of 4,096 bytes, at any width that divides 4,096.
 use mathlib.Core.Path.{◌≡◌, ap, sym, ◌∙◌}
-use Prim.Native.Nat.{ℕ, zero, suc, ◌+◌, ◌*◌, ◌/◌, ◌%◌, ◌≤◌, ◌<◌}
+use Prim.Native.Nat.{ℕ, zero, suc, ◌+◌, ◌*◌, ◌/◌, ◌%◌, ◌<◌}
 use native.Mathlib.Nat.{div-add-mod', mul_assoc, add-mul, mod-lt, mul-le-mul_right, zero-mul, suc-mul}
 use native.Mathlib.Omega.{arith}
 

@@ -1,7 +1,7 @@
 -- What a load and a store come to at each place, over the width.
 use mathlib.Core.Path.{◌≡◌, refl, ap, sym, ◌∙◌}
 use mathlib.Core.List.{List}
-use Prim.Native.Nat.{ℕ, ◌+◌, ◌≤◌}
+use Prim.Native.Nat.{ℕ}
 use lib.ListN.{length}
 use Rattle.endian.specs.BigEndian.{read_at, write_at}
 use Rattle.timer.specs.Timer.{register_read, register_written}

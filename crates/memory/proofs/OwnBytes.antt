@@ -1,18 +1,16 @@
 -- A load depends on its own bytes, the timer and the three lengths alone.
-use mathlib.Core.Path.{◌≡◌, refl, ap, sym, subst, ◌∙◌}
-use mathlib.Core.List.{List}
-use Prim.Native.Nat.{ℕ, suc, ◌+◌, ◌-◌, ◌^◌, ◌≤◌, ◌<◌}
+use mathlib.Core.Path.{◌≡◌, refl, ap, sym, ◌∙◌}
+use Prim.Native.Nat.{ℕ, ◌+◌, ◌≤◌, ◌<◌}
 use native.Mathlib.Omega.{arith}
 use lib.ListN.{length, get_or}
-use Rattle.endian.specs.BigEndian.{read_at}
 use Rattle.timer.specs.declared.Timer as timer
-use Rattle.endian.proofs.Widths.{read_same, read_lt}
+use Rattle.endian.proofs.Widths.{read_same}
 use Rattle.memory.specs.Map.{Memory, locate, place_in, byte_in, byte_at, rom_base, belt_base}
 use Rattle.memory.specs.Access.{read_in, load_of}
 use Rattle.memory.specs.declared.Place.{Place}
 use Rattle.memory.specs.declared.Place.TheVariants.{Ram, Rom, Belt, Timer, Nothing}
 use Rattle.memory.specs.declared.Loaded.TheVariants as loaded
-use Rattle.memory.proofs.Places.{locate_ram, locate_rom, locate_belt, true_within, within_past, within_not, Lies, place_lies}
+use Rattle.memory.proofs.Places.{locate_ram, locate_rom, locate_belt, true_within, within_past, Lies, place_lies}
 use Rattle.memory.proofs.Outcomes.{load_at}
 
 -- no two of the three share an address

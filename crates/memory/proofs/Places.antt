@@ -1,12 +1,11 @@
 -- The place of an access: what it is in each case of the map, and what it tells of the address and the lengths.
 use mathlib.Core.Path.{◌≡◌, refl, ap, sym, subst, ◌∙◌}
-use mathlib.Core.Bool.{Bool, true, false, cond}
+use mathlib.Core.Bool.{Bool, true, false}
 use Prim.Native.Nat.{ℕ, ◌+◌, ◌-◌, ◌≤◌, ◌<◌}
 use native.Mathlib.Omega.{arith}
 use lib.Dec.{leb, eqb}
-use borrow.Author.Tests.{leb-true, leb-false, le-leb, lt-leb, eqb-true, eq-eqb, ne_eqb}
+use borrow.Author.Tests.{leb-true, le-leb, lt-leb, eqb-true, eq-eqb, ne_eqb}
 use Rattle.words.proofs.Cases.{case}
-use Rattle.words.specs.Logic.{both}
 use Rattle.words.proofs.Conjunction.{both_true}
 use Rattle.memory.specs.Map.{within, register_at, locate, words_only, place_of, rom_base, belt_base, timer_base}
 use Rattle.memory.specs.declared.Place.{Place}

@@ -1,14 +1,13 @@
 -- A store changes its own bytes alone, and a load there gives back what was stored.
-use mathlib.Core.Path.{◌≡◌, refl, ap, sym, subst, ◌∙◌}
-use mathlib.Core.List.{List}
-use Prim.Native.Nat.{ℕ, suc, ◌+◌, ◌-◌, ◌%◌, ◌^◌, ◌≤◌, ◌<◌}
+use mathlib.Core.Path.{◌≡◌, refl, ap, ◌∙◌}
+use Prim.Native.Nat.{ℕ, ◌+◌, ◌%◌, ◌^◌, ◌≤◌, ◌<◌}
 use native.Mathlib.Omega.{arith}
-use lib.ListN.{length, get_or}
-use Rattle.endian.specs.BigEndian.{read_at, write_at}
+use lib.ListN.{length}
+use Rattle.endian.specs.BigEndian.{read_at}
 use Rattle.timer.specs.declared.Timer as timer
 use Rattle.endian.proofs.Widths.{length_write, write_other, read_write}
-use Rattle.memory.specs.Map.{Memory, memory, locate, place_of, place_in, byte_in, byte_at, rom_base, belt_base, timer_base}
-use Rattle.memory.specs.Access.{read_in, load_of, write_in, memory_after, written_in, timer_after}
+use Rattle.memory.specs.Map.{Memory, locate, place_in, byte_in, byte_at, timer_base}
+use Rattle.memory.specs.Access.{load_of, write_in, memory_after, written_in, timer_after}
 use Rattle.memory.specs.declared.Place.{Place}
 use Rattle.memory.specs.declared.Place.TheVariants.{Ram, Rom, Belt, Timer, Nothing}
 use Rattle.memory.specs.declared.Loaded.TheVariants as loaded

@@ -1,7 +1,7 @@
 -- Between ROM and the belt registers the timer's two registers answer words, and nothing else answers, at every length that a run accepts (document 02,
 -- job 1).
 use mathlib.Core.Path.{◌≡◌, refl, ◌∙◌}
-use Prim.Native.Nat.{ℕ, ◌+◌, ◌≤◌, ◌<◌}
+use Prim.Native.Nat.{ℕ, ◌≤◌, ◌<◌}
 use native.Mathlib.Omega.{arith}
 use Rattle.memory.specs.Map.{register_at, place_of, rom_base, belt_base}
 use Rattle.memory.specs.declared.Place.TheVariants.{Timer, Nothing}

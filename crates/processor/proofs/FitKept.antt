@@ -1,5 +1,5 @@
 -- Every operation keeps a fit state fit, and the state at reset is fit.
-use Rattle.std.proofs.Common.{◌≡◌, ℕ, ◌%◌, ◌≤◌, Bool, true, cond, eqb, leb, List, get_or, set, sym, refl, ◌∙◌, arith, get_or-set_other, le-ltb, lt-ltb}
+use Rattle.std.proofs.Common.{◌≡◌, ℕ, ◌%◌, ◌≤◌, Bool, true, cond, eqb, leb, List, get_or, sym, refl, ◌∙◌, arith, get_or-set_other, le-ltb, lt-ltb}
 use borrow.Author.Tests.{eqb-false}
 use Rattle.words.proofs.Cases.{chosen, case, below_or_not}
 use Rattle.words.specs.Logic.{both}

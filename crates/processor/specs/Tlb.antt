@@ -1,5 +1,5 @@
 -- The translation lookaside buffer (manual, 2.9; 3.6.5 to 3.6.8; document 01, "Closed by us"; document 02, job 4).
-use Rattle.std.specs.Prelude.{ℕ, ◌%◌, set, slice_index, slice_set}
+use Rattle.std.specs.Prelude.{ℕ, ◌%◌, slice_index, slice_set}
 use Rattle.tlb.specs.Lookup.{page_of, lookup, next_replacement, found_index}
 use Rattle.processor.specs.State.{with_specials, with_tlb, with_replacement}
 use Rattle.processor.specs.declared.Processor.{Processor}

@@ -1,6 +1,6 @@
 -- The quotient and remainder of integers that the definitions use are what their names say: dividend = quotient * divisor + remainder,
 -- and the remainder is smaller in size than the divisor and has the dividend's sign.
-use Rattle.std.proofs.Common.{◌≡◌, ℕ, zero, suc, ◌+◌, ◌*◌, ◌/◌, ◌%◌, ◌<◌, ℤ, pos, negsuc, ◌+ℤ◌, ◌*ℤ◌, neg_ℤ, nat_abs, sym, refl, ap, ◌∙◌, ap₂, mod-lt, div-add-mod', zero-mul}
+use Rattle.std.proofs.Common.{◌≡◌, ℕ, zero, suc, ◌*◌, ◌/◌, ◌%◌, ◌<◌, ℤ, pos, negsuc, ◌+ℤ◌, ◌*ℤ◌, neg_ℤ, nat_abs, sym, refl, ap, ◌∙◌, mod-lt, div-add-mod', zero-mul}
 use lib.IntN.{neg_ℤ-+ℤ}
 use lib.Signed.{quot_z, rem_z}
 

@@ -1,5 +1,5 @@
 -- The exported runs, by the tests of the code.
-use mathlib.Core.Path.{◌≡◌, refl, ap, sym, subst, ◌∙◌}
+use mathlib.Core.Path.{◌≡◌, refl, ap, sym, ◌∙◌}
 use mathlib.Core.Bool.{Bool, true, false, cond}
 use mathlib.Core.List.{List, [], ◌∷◌, ◌++◌}
 use Prim.Native.Nat.{ℕ, ◌*◌, ◌≤◌, ◌<◌}
@@ -7,7 +7,7 @@ use native.Mathlib.Nat.{zero-add}
 use native.Mathlib.Omega.{arith}
 use lib.Dec.{eqb}
 use lib.ListN.{length, get_or}
-use borrow.Author.Tests.{eq-eqb, ne_eqb, eqb-true, leb-true}
+use borrow.Author.Tests.{ne_eqb, eqb-true, leb-true}
 use Rattle.memory.specs.Map.{Memory}
 use Rattle.timer.specs.declared.Timer.{Timer}
 use Rattle.timer.specs.Timer.{timer_fit}
@@ -18,7 +18,6 @@ use Rattle.record_layout.specs.Record.{record_of, processor_of, timer_of}
 use Rattle.record.specs.Calls.{processor_unless, timer_unless, machine_tests, machine_refusal}
 use Rattle.record.proofs.Fitness.{both_fit}
 use Rattle.record.proofs.ReadWritten.{machine_written}
-use Rattle.machine.specs.Machine.{Machine}
 use Rattle.refusals.specs.Refusal.{Test, first_failed, memory_tests, steps_test, charges_tests, request_tests}
 use Rattle.refusals.proofs.FirstFailed.{joined, all_pass}
 use Rattle.charges.specs.Charges.{Charging, Uncharged, most_charged}

@@ -1,6 +1,6 @@
 -- What the exported runs do: the machine is read from its record and, unless the run is refused, written back (document 01, "Runs and views";
 -- document 02, job 3).
-use Rattle.std.specs.Prelude.{cond, List, [], ◌∷◌, ◌++◌, ℕ, eqb}
+use Rattle.std.specs.Prelude.{cond, List, [], ◌++◌, ℕ, eqb}
 use Rattle.memory.specs.Map.{Memory}
 use Rattle.words.specs.Identifiers.{no_exception}
 use Rattle.tlb.specs.Lookup.{no_slot}

@@ -1,6 +1,6 @@
 -- The charge of a run: the sum of its steps' entries, at most the steps made times the largest charge, and 0 where none was made; and that charging
 -- changes nothing else (document 02, job 3).
-use mathlib.Core.Path.{◌≡◌, refl, ap, sym, subst, ◌∙◌}
+use mathlib.Core.Path.{◌≡◌, refl, ap, sym, ◌∙◌}
 use mathlib.Core.Bool.{Bool, true, false, cond}
 use mathlib.Core.List.{List, [], ◌∷◌, ◌++◌}
 use Prim.Native.Nat.{ℕ, zero, suc, ◌+◌, ◌*◌, ◌≤◌}
@@ -15,7 +15,7 @@ use Rattle.machine.specs.Machine.{Machine, fit_with}
 use Rattle.step.specs.Step.{Stepped, step_of}
 use Rattle.step.proofs.OpcodeLaws.{opcode_within}
 use Rattle.refusals.specs.Request.{Request, without_charging}
-use Rattle.refusals.specs.Refusal.{Test, first_failed, memory_tests, fit_test, steps_test, run_refusal}
+use Rattle.refusals.specs.Refusal.{memory_tests, fit_test, steps_test, run_refusal}
 use Rattle.refusals.proofs.Lengths.{charges_last}
 use Rattle.run_loop.specs.Run.{Outcome, outcome, ends, steps_from, steps_of, counted, counted_all, begun, run_of, run_from}
 use Rattle.run_loop.proofs.Loop.{onward, first_step, run_is}

@@ -1,7 +1,7 @@
 -- A run by its steps; and the loop: a turn more, a turn that ends the run, and the end at the wanted count.
-use mathlib.Core.Path.{◌≡◌, refl, ap, sym, subst, ◌∙◌}
+use mathlib.Core.Path.{◌≡◌, refl, ap, ◌∙◌}
 use mathlib.Core.Bool.{Bool, true, false, cond}
-use mathlib.Core.List.{List, []}
+use mathlib.Core.List.{[]}
 use Prim.Native.Nat.{ℕ, suc, ◌+◌, ◌-◌, ◌≤◌, ◌<◌}
 use native.Mathlib.Numerals.{add-one}
 use native.Mathlib.Omega.{arith}
@@ -9,7 +9,7 @@ use lib.Dec.{eqb}
 use borrow.Author.Tests.{lt-ltb, le-ltb, eqb-true, eqb-false}
 use Rattle.words.proofs.Counts.{left, over}
 use Rattle.machine.specs.Machine.{Machine}
-use Rattle.step.specs.Step.{Stepped, step_of}
+use Rattle.step.specs.Step.{step_of}
 use Rattle.refusals.specs.Refusal.{run_refusal}
 use Rattle.charges.specs.Charges.{charge_of}
 use Rattle.refusals.specs.Request.{Request}

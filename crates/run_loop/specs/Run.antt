@@ -1,6 +1,6 @@
 -- The two kinds of run (document 01, "Runs and views" and "Refused calls"; document 02, jobs 2 and 3): the steps that a run makes, and its answer
 -- counted from them.
-use Rattle.std.specs.Prelude.{Bool, true, false, cond, List, [], ◌∷◌, ℕ, zero, suc, ◌+◌, ltb, eqb}
+use Rattle.std.specs.Prelude.{Bool, cond, List, [], ◌∷◌, ℕ, zero, suc, ◌+◌, ltb, eqb}
 use Rattle.words.specs.Logic.{both}
 use Rattle.tlb.specs.Lookup.{no_slot, replacement_after}
 use Rattle.processor.specs.declared.Processor.{Processor}

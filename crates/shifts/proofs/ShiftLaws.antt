@@ -1,9 +1,8 @@
 -- The arithmetic shift by the sign of the word, as the code computes it.
-use mathlib.Core.Path.{◌≡◌, refl, ap, sym, ◌∙◌}
-use Prim.Native.Nat.{ℕ, suc, ◌+◌, ◌-◌, ◌/◌, ◌%◌, ◌^◌, ◌≤◌, ◌<◌}
+use mathlib.Core.Path.{◌≡◌}
+use Prim.Native.Nat.{ℕ, ◌-◌, ◌/◌, ◌%◌, ◌^◌, ◌≤◌, ◌<◌}
 use native.Mathlib.Nat.{div-le_self}
 use native.Mathlib.Omega.{arith}
-use Rattle.words.specs.Numbers.{signed, word_of}
 use Rattle.shifts.specs.Shifts.{shift_arithmetic}
 use Rattle.words.proofs.Integers.{signed_low, signed_high, word_pos, word_negsuc}
 

@@ -1,5 +1,5 @@
 -- The replacement index moves once in every step and in no other way, and TBWR writes at the index as it was before the step (document 02, job 4).
-use mathlib.Core.Path.{◌≡◌, refl, ap, ◌∙◌}
+use mathlib.Core.Path.{◌≡◌, refl, ap}
 use Prim.Native.Nat.{ℕ, ◌%◌}
 use lib.ListN.{set}
 use Rattle.tlb.specs.Lookup.{next_replacement}
@@ -10,7 +10,7 @@ use Rattle.processor.specs.Tlb.{entry_written, indexed_written, random_written, 
 use Rattle.instructions.specs.Action.{Action, Write, Store, System, Exception, SystemInstruction, Rfx, Mvfs, Mvts, Tbs, Tbwr, Tbri, Tbwi}
 use Rattle.machine.specs.Machine.{Machine}
 use Rattle.actions.specs.Actions.{system_done, processor_after}
-use Rattle.step.specs.Step.{look, done, step_of}
+use Rattle.step.specs.Step.{look, step_of}
 use Rattle.step.proofs.Looks.{step_done}
 
 -- no action moves it, TBWR neither

@@ -5,10 +5,9 @@ use Prim.Native.Nat.{ℕ, zero, suc, ◌+◌, ◌/◌, ◌%◌, ◌≤◌, ◌<�
 use native.Mathlib.Omega.{arith}
 use lib.Bits.{bit_and}
 use lib.Dec.{eqb, ltb}
-use lib.ListN.{get_or}
-use borrow.Author.Tests.{lt-ltb, le-ltb, ltb-true, eqb-true}
+use borrow.Author.Tests.{ltb-true}
 use mathlib.Core.List.{List}
-use Rattle.status.specs.Psw.{identifier, interrupt_current, enabled, pushed}
+use Rattle.status.specs.Psw.{identifier, interrupt_current, enabled}
 use Rattle.processor.specs.Exception.{entered}
 use Rattle.look.specs.Interrupt.{lowest, channel}
 use Rattle.translation.specs.Translation.{translated}

@@ -1,7 +1,7 @@
 -- Document 01's starred cases, as one table over the definitions, each by computation.
 use mathlib.Core.Path.{◌≡◌, refl}
 use mathlib.Core.List.{List, [], ◌∷◌, ◌++◌}
-use Prim.Native.Nat.{ℕ, ◌+◌, ◌/◌, ◌%◌}
+use Prim.Native.Nat.{ℕ, ◌/◌, ◌%◌}
 use lib.ListN.{replicate, get_or, set}
 use Rattle.words.specs.Numbers.{bit, truncate, sign_extend, zero_extend, signed, word_of}
 use Rattle.sums.specs.Sums.{sum}

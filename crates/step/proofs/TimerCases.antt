@@ -14,7 +14,6 @@ use Rattle.status.specs.Psw.{vector, user_current, user_previous, user_old, inte
 use Rattle.status.specs.Psw.{pushed, popped, user_mode}
 use Rattle.translation.specs.Translation.{translated, forbidden, mapped, through, valid, writable}
 use Rattle.tlb.specs.Lookup.{lookup, find_from}
-use Rattle.processor.specs.declared.Processor.{Processor}
 use Rattle.processor.specs.State.{at_reset, with_pc, with_specials}
 use Rattle.processor.specs.Entry.{service_base, user_miss, service_address}
 use Rattle.processor.specs.Exception.{entered}

@@ -1,7 +1,7 @@
 -- The signed and the unsigned product have the same low 32 bits (manual, 3.3.5 to 3.3.8).
-use Rattle.std.proofs.Common.{◌≡◌, ℕ, zero, suc, ◌+◌, ◌-◌, ◌*◌, ◌/◌, ◌%◌, ◌^◌, ◌<◌, ◌≤◌, ℤ, pos, negsuc, ◌*ℤ◌, neg_ℤ, sym, refl, ap, ◌∙◌, lt_of_le_of_lt, mod-eq_of_lt, mul_comm, add-mul, mul-le-mul, mul-add, arith}
+use Rattle.std.proofs.Common.{◌≡◌, ℕ, zero, suc, ◌+◌, ◌-◌, ◌*◌, ◌%◌, ◌^◌, ◌<◌, ℤ, pos, ◌*ℤ◌, neg_ℤ, sym, refl, ◌∙◌, lt_of_le_of_lt, mod-eq_of_lt, add-mul, mul-le-mul, mul-add, arith}
 use native.Mathlib.Nat.{mul-mod_left, mul-mod_right, le-pred_of_lt}
-use Rattle.words.specs.Numbers.{truncate, signed, word_of}
+use Rattle.words.specs.Numbers.{truncate, word_of}
 use Rattle.sums.specs.Sums.{signed_product, unsigned_product}
 use Rattle.words.proofs.Integers.{by_signs, word_lt}
 

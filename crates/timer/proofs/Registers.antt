@@ -1,13 +1,13 @@
 -- A timer that holds words: its registers read as words, and stores and ticks keep it so; they keep a fit one fit, too.
 use mathlib.Core.Path.{◌≡◌}
-use mathlib.Core.Bool.{cond, ◌&&◌}
-use Prim.Native.Nat.{ℕ, ◌+◌, ◌-◌, ◌*◌, ◌/◌, ◌%◌, ◌^◌, ◌≤◌, ◌<◌}
+use mathlib.Core.Bool.{◌&&◌}
+use Prim.Native.Nat.{ℕ, ◌/◌, ◌%◌, ◌^◌, ◌≤◌, ◌<◌}
 use native.Mathlib.Omega.{arith}
 use lib.Dec.{leb, eqb}
 use borrow.Author.Tests.{ne_eqb}
 use Rattle.words.proofs.Cases.{case}
 use Rattle.words.proofs.Conjunction.{two}
-use Rattle.timer.specs.Timer.{timer, raised, register_read, register_written, flagged, ticked, TimerWords}
+use Rattle.timer.specs.Timer.{timer, raised, register_read, register_written, ticked, TimerWords}
 use Rattle.timer.specs.declared.Timer.{Timer}
 
 pub read_word : (t : Timer) → TimerWords t → (at : ℕ) → register_read t at < 2 ^ 32

@@ -1,12 +1,9 @@
 -- What n ticks come to: a timer that does not run stands still, and one that does wraps when its counter has run down (document 02, job 1).
-use mathlib.Core.Path.{◌≡◌, refl, ap, sym, ◌∙◌}
-use mathlib.Core.Bool.{Bool, cond}
-use Prim.Native.Nat.{ℕ, zero, suc, ◌+◌, ◌-◌, ◌*◌, ◌/◌, ◌%◌, ◌≤◌, ◌<◌}
+use mathlib.Core.Path.{◌≡◌, refl, ap, ◌∙◌}
+use Prim.Native.Nat.{ℕ, zero, suc, ◌-◌, ◌≤◌, ◌<◌}
 use native.Mathlib.Omega.{arith}
-use lib.Dec.{leb, eqb}
 use borrow.Author.Tests.{le-leb, lt-leb, ne_eqb}
 use Rattle.timer.specs.Timer.{timer, flagged, ticked, ticks}
-use Rattle.timer.specs.declared.Timer.{Timer}
 
 -- ---- one tick
 

@@ -1,8 +1,8 @@
 -- The signed reading of a word and the word of an integer (specs/Numbers) are two's complement: what each is, and that they are inverse.
-use Rattle.std.proofs.Common.{◌≡◌, ℕ, zero, suc, ◌+◌, ◌-◌, ◌*◌, ◌/◌, ◌%◌, ◌^◌, ◌<◌, ◌≤◌, Bool, true, false, ltb, ℤ, pos, negsuc, sym, refl, ap, ◌∙◌, arith, le-ltb, lt-ltb}
+use Rattle.std.proofs.Common.{◌≡◌, ℕ, suc, ◌-◌, ◌*◌, ◌/◌, ◌%◌, ◌^◌, ◌<◌, ◌≤◌, ℤ, pos, negsuc, ap, ◌∙◌, arith, le-ltb, lt-ltb}
 use lib.IntN.{sub_ℕ}
 use Rattle.words.proofs.Cases.{below_or_not}
-use Rattle.words.specs.Numbers.{bit, truncate, signed, word_of}
+use Rattle.words.specs.Numbers.{bit, signed, word_of}
 
 pub sub_pos : (a b : ℕ) → b ≤ a → sub_ℕ a b ≡ pos (a - b)
 sub_pos a b h = simp (le-ltb a b h)

@@ -1,5 +1,5 @@
 -- Sign extension at any width up to 32: the code's two sums give it, and it keeps the signed reading (manual, 2.1).
-use Rattle.std.proofs.Common.{◌≡◌, ℕ, zero, suc, ◌+◌, ◌-◌, ◌*◌, ◌/◌, ◌%◌, ◌^◌, ◌<◌, ◌≤◌, ℤ, pos, negsuc, sym, refl, ap, ◌∙◌, subst, add-zero, mod-lt, mod-eq_of_lt, one-mul, zero-add, zero-mul, arith, pow_pos, pow_mono, pow-add}
+use Rattle.std.proofs.Common.{◌≡◌, ℕ, zero, suc, ◌+◌, ◌-◌, ◌*◌, ◌%◌, ◌^◌, ◌<◌, ◌≤◌, pos, negsuc, sym, ap, ◌∙◌, add-zero, mod-lt, mod-eq_of_lt, one-mul, zero-add, zero-mul, arith, pow_pos, pow_mono, pow-add}
 use native.Mathlib.Nat.{add-mod_right, sub-zero}
 use lib.IntN.{sub_ℕ}
 use lib.Pow.{mod-pow-add}

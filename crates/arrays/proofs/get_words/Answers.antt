@@ -1,6 +1,6 @@
 -- `arrays::get_words` meets its contract, by the laws of Loops.
 use mathlib.Core.Path.{refl, sym, ◌∙◌}
-use Prim.Native.Nat.{◌<◌, ◌-◌}
+use Prim.Native.Nat.{◌<◌}
 use native.Mathlib.Nat.{sub-zero, zero-mul, add-zero}
 use native.Mathlib.Omega.{arith}
 use lib.ListN.{length, length-set}

@@ -1,6 +1,5 @@
 -- `arrays::put_words` meets its contract, by the laws of Loops.
 use mathlib.Core.Path.{refl, sym, ◌∙◌}
-use Prim.Native.Nat.{◌-◌}
 use native.Mathlib.Nat.{zero-mul, add-zero}
 use native.Mathlib.Omega.{arith}
 use Rattle.arrays.proofs.Loops.{in_slice, put_more, put_end}

@@ -1,5 +1,4 @@
 -- `belt_text::put` meets its contract, by the laws of TextLaws.
-use Prim.Native.Nat.{◌-◌}
 use Rattle.belt_text.proofs.TextLaws.{pasted_none, pasted_more, pasted_all}
 use Rattle.belt_text.proofs.put.Goals as goal
 

@@ -1,7 +1,6 @@
 -- `belt_trace::trace` meets its contract, by the laws of Lines.
 use native.Mathlib.Omega.{arith}
 use mathlib.Core.Path.{sym, ◌∙◌}
-use Prim.Native.Nat.{◌-◌}
 use Rattle.belt_step.proofs.LineLaws.{machine_of_step}
 use Rattle.belt_text.proofs.TextLaws.{no_room, room}
 use Rattle.belt_trace.proofs.Lines.{started, fits, more, four, text_length}

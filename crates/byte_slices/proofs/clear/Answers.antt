@@ -1,7 +1,6 @@
 -- `byte_slices::clear` meets its contract, by the laws of SliceLaws.
 use native.Mathlib.Omega.{arith}
 use mathlib.Core.Path.{refl, sym}
-use Prim.Native.Nat.{◌-◌}
 use lib.ListN.{length-replicate, get_or-replicate, length-set}
 use Rattle.byte_slices.proofs.SliceLaws.{written_more, written_all}
 use Rattle.byte_slices.proofs.clear.Goals as goal

@@ -1,7 +1,6 @@
 -- `byte_slices::copy` meets its contract, by the laws of SliceLaws.
 use native.Mathlib.Omega.{arith}
 use mathlib.Core.Path.{refl, sym, ◌∙◌}
-use Prim.Native.Nat.{◌-◌}
 use Rattle.byte_slices.proofs.SliceLaws.{written_more, written_all, copy_apart, copy_made}
 use Rattle.byte_slices.proofs.copy.Goals as goal
 

@@ -1,7 +1,6 @@
 -- `byte_slices::same_bytes` meets its contract, by the laws of SameLaws.
 use native.Mathlib.Omega.{arith}
 use mathlib.Core.Path.{refl, sym}
-use Prim.Native.Nat.{◌-◌}
 use Rattle.byte_slices.proofs.SameLaws.{lengths_differ, same_more, same_stop, same_end}
 use Rattle.byte_slices.proofs.same_bytes.Goals as goal
 

@@ -11,8 +11,7 @@ pub overflow_add-result : goal.overflow_add-result
 overflow_add-result c = omega (arith, c.charge_at.ensures.1, c.requires.2)
 
 pub returns-then-charged : goal.returns-then-charged
-returns-then-charged c =
-    (
+returns-then-charged c = (
   rw c.if-charged.true (ap (λ (n : ℕ). c.args.total + n) c.charge_at.ensures.0),
   omega (
     arith,

@@ -7,8 +7,7 @@ use Rattle.charges.proofs.charge_at.Goals as goal
 
 pub returns : goal.returns
 unfolding charge_at
-returns c =
-    (
+returns c = (
   rw (c.byte_at-high.ensures.0, c.byte_at-low.ensures.0) (sym (half_read _ _)),
   omega (arith, c.byte_at-high.ensures.1, c.byte_at-low.ensures.1),
 )

@@ -7,10 +7,13 @@ use Rattle.look.proofs.look_at.Goals as goal
 
 pub returns-then-channel-lt-NO_EXCEPTION : goal.returns-then-channel-lt-NO_EXCEPTION
 returns-then-channel-lt-NO_EXCEPTION c =
-    record { action = look_interrupt _ _ _ _ _ c.accepted-channel.ensures c.if-channel-lt-NO_EXCEPTION.true; opcode = (
-    opcode_interrupt _ _ _ _ c.accepted-channel.ensures c.if-channel-lt-NO_EXCEPTION.true,
-    omega arith,
-  ) }
+    record {
+      action = look_interrupt _ _ _ _ _ c.accepted-channel.ensures c.if-channel-lt-NO_EXCEPTION.true;
+      opcode = (
+        opcode_interrupt _ _ _ _ c.accepted-channel.ensures c.if-channel-lt-NO_EXCEPTION.true,
+        omega arith,
+      );
+    }
 
 pub returns-in-Value : goal.returns-in-Value
 returns-in-Value c =

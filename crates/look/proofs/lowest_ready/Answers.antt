@@ -1,6 +1,5 @@
 -- `look::lowest_ready` meets its contract, by the laws of Loop.
 use mathlib.Core.Path.{refl, sym, ◌∙◌}
-use Prim.Native.Nat.{◌-◌}
 use native.Mathlib.Omega.{arith}
 use Rattle.look.proofs.ChannelLoop.{lowest_more, lowest_stop, lowest_end}
 use Rattle.look.proofs.lowest_ready.Goals as goal

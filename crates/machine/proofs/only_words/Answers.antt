@@ -1,7 +1,5 @@
 -- `machine::only_words` meets its contract, by the laws of Tests.
 use mathlib.Core.Path.{refl, sym, ◌∙◌}
-use mathlib.Core.Bool.{true}
-use Prim.Native.Nat.{◌-◌}
 use native.Mathlib.Omega.{arith}
 use Rattle.machine.proofs.Tests.{only_more, only_end}
 use Rattle.machine.proofs.only_words.Goals as goal

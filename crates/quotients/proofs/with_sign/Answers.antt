@@ -1,5 +1,5 @@
 -- `quotients::with_sign` meets its contract, by the laws of Division and Differences.
-use Rattle.std.proofs.Common.{sym, ◌∙◌, rules}
+use Rattle.std.proofs.Common.{sym, ◌∙◌}
 use Rattle.quotients.proofs.Division.{plus, minus}
 use Rattle.sums.proofs.Differences.{is_difference}
 use Rattle.quotients.proofs.with_sign.Goals as goal

@@ -5,7 +5,6 @@ use Rattle.record_calls.proofs.reset.Goals as goal
 
 pub returns-then-machine-ne-LENGTH : goal.returns-then-machine-ne-LENGTH
 returns-then-machine-ne-LENGTH c =
-    
     let (refusal, buffer) = reset_refused c.args.machine.now c.if-machine-ne-LENGTH.true in
     record { refusal = refusal; buffer = buffer }
 

@@ -1,6 +1,6 @@
 -- `refusals::of_lengths` meets its contract: each answer by the tests before it.
 use mathlib.Core.Path.{sym, ◌∙◌}
-use borrow.Author.Tests.{not-true, not-false, eq-eqb, ne_eqb}
+use borrow.Author.Tests.{eq-eqb, ne_eqb}
 use Rattle.refusals.proofs.of_lengths.Goals as goal
 
 pub returns-then-not-ram_accepted : goal.returns-then-not-ram_accepted

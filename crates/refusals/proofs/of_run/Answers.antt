@@ -1,7 +1,6 @@
 -- `refusals::of_run` meets its contract: the lengths, then fitness, then the request.
 use mathlib.Core.List.{List, ◌∷◌}
 use mathlib.Core.Path.{refl, sym, ◌∙◌}
-use borrow.Author.Tests.{not-true, not-false}
 use Rattle.machine.specs.Machine.{fit_with}
 use Rattle.charges.specs.Code.{charging_by}
 use Rattle.refusals.specs.Refusal.{Test, lengths_tests, fit_test, request_tests}

@@ -1,6 +1,5 @@
 -- `replay::part` meets its contract, by the laws of CommandLaws.
 use native.Mathlib.Omega.{arith}
-use Prim.Native.Nat.{◌-◌}
 use Rattle.replay.proofs.CommandLaws.{begun, in_part, nth_kept, again, part_judged}
 use Rattle.replay.proofs.part.Goals as goal
 

@@ -1,8 +1,6 @@
 -- `run_loop::turns` meets its contract, by the laws of Loop and Turn.
 use mathlib.Core.Path.{refl, ap, sym, ◌∙◌}
-use Prim.Native.Nat.{◌-◌}
 use native.Mathlib.Omega.{arith}
-use borrow.Author.Rules.{rules}
 use Rattle.processor.specs.Tlb.{index_moved}
 use Rattle.instructions.specs.Action.{System}
 use Rattle.processor.specs.Register.{jumped}
@@ -21,15 +19,15 @@ pub loop-steps-init : goal.loop-steps-init
 unfolding replacement_after
 loop-steps-init c =
     record {
-  ram = refl;
-  belt = refl;
-  none = refl;
-  untold = λ more. refl;
-  found = c.first-last.ensures.1;
-  rest = run_start _ 0 _;
-  within = omega
-      arith;
-}
+      ram = refl;
+      belt = refl;
+      none = refl;
+      untold = λ more. refl;
+      found = c.first-last.ensures.1;
+      rest = run_start _ 0 _;
+      within = omega
+          arith;
+    }
 
 pub follow-last-requires : goal.follow-last-requires
 follow-last-requires c = c.loop-steps.invariant.found

@@ -1,6 +1,5 @@
 -- `tlb::find` meets its contract, by the laws of Loop.
 use mathlib.Core.Path.{refl, sym, ◌∙◌}
-use Prim.Native.Nat.{◌-◌}
 use native.Mathlib.Omega.{arith}
 use Rattle.tlb.specs.Lookup.{lookup}
 use Rattle.tlb.proofs.Loop.{find_more, find_stop, find_end}

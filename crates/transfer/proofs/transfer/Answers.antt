@@ -6,7 +6,7 @@ use lib.ListN.{get_or}
 use Rattle.instructions.specs.Operands.{operands, surroundings, simple, illegal}
 use Rattle.transfer.specs.Transfer.{load, transfers}
 use Rattle.transfer.specs.Code.{extensions}
-use Rattle.instructions.proofs.Arms.{arm, beyond}
+use Rattle.instructions.proofs.Arms.{arm}
 use Rattle.transfer.proofs.Loads.{lands, stores, none_left}
 use Rattle.memory.specs.Map.{memory}
 use Rattle.sums.specs.Sums.{sum}
