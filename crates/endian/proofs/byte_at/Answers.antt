@@ -1,10 +1,6 @@
 -- `endian::byte_at` meets its contract: an element of a slice of bytes is a byte.
 use mathlib.Core.Path.{refl}
-use Rattle.endian.proofs.Widths.{byte_fits}
 use Rattle.endian.proofs.byte_at.Goals as goal
-
-pub overflow_cast-result : goal.overflow_cast-result
-overflow_cast-result c = record { fits = byte_fits _ (c.shared_slice_known-1.given _).fits }
 
 pub returns : goal.returns
 returns c = (refl, (c.shared_slice_known-1.given _).fits)

@@ -1,4 +1,5 @@
 -- `load_store::load` meets its contract, by the laws of memory/proofs: Outcomes and Places.
+use native.Mathlib.Omega.{arith}
 use Rattle.memory.specs.declared.Place.TheVariants.{Ram, Rom, Belt}
 use Rattle.memory.proofs.Outcomes.{loads_ram, loads_rom, loads_belt, loads_register, loads_nothing}
 use Rattle.memory.proofs.Places.{place_lies}
@@ -6,13 +7,19 @@ use Rattle.load_store.proofs.Widths.{told}
 use Rattle.load_store.proofs.load.Goals as goal
 
 pub read-requires : goal.read-requires
-read-requires c = (place_lies _ _ _ _ _ (Ram _) (told _ _ _ _ _ c.bytes_of.ensures c.place_of-place.ensures c.in-Ram.is)).1
+read-requires c =
+    let inside = (place_lies _ _ _ _ _ (Ram _) (told _ _ _ _ _ c.bytes_of.ensures c.place_of-place.ensures c.in-Ram.is)).1 in
+    omega arith
 
 pub read-requires-in-Rom : goal.read-requires-in-Rom
-read-requires-in-Rom c = (place_lies _ _ _ _ _ (Rom _) (told _ _ _ _ _ c.bytes_of.ensures c.place_of-place.ensures c.in-Rom.is)).1
+read-requires-in-Rom c =
+    let inside = (place_lies _ _ _ _ _ (Rom _) (told _ _ _ _ _ c.bytes_of.ensures c.place_of-place.ensures c.in-Rom.is)).1 in
+    omega arith
 
 pub read-requires-in-Belt : goal.read-requires-in-Belt
-read-requires-in-Belt c = (place_lies _ _ _ _ _ (Belt _) (told _ _ _ _ _ c.bytes_of.ensures c.place_of-place.ensures c.in-Belt.is)).1
+read-requires-in-Belt c =
+    let inside = (place_lies _ _ _ _ _ (Belt _) (told _ _ _ _ _ c.bytes_of.ensures c.place_of-place.ensures c.in-Belt.is)).1 in
+    omega arith
 
 pub returns-in-Ram : goal.returns-in-Ram
 returns-in-Ram c = loads_ram _ _ _ _ _ _ _ _ (told _ _ _ _ _ c.bytes_of.ensures c.place_of-place.ensures c.in-Ram.is) c.read.ensures

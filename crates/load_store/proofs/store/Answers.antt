@@ -1,4 +1,5 @@
 -- `load_store::store` meets its contract, by the laws of memory/proofs: Outcomes and Places.
+use native.Mathlib.Omega.{arith}
 use Rattle.memory.specs.declared.Place.TheVariants.{Ram, Belt}
 use Rattle.memory.proofs.Outcomes.{stores_ram, stores_rom, stores_belt, stores_register, stores_nothing}
 use Rattle.memory.proofs.Places.{place_lies}
@@ -6,10 +7,14 @@ use Rattle.load_store.proofs.Widths.{told}
 use Rattle.load_store.proofs.store.Goals as goal
 
 pub write-requires : goal.write-requires
-write-requires c = (place_lies _ _ _ _ _ (Ram _) (told _ _ _ _ _ c.bytes_of.ensures c.place_of-place.ensures c.in-Ram.is)).1
+write-requires c =
+    let inside = (place_lies _ _ _ _ _ (Ram _) (told _ _ _ _ _ c.bytes_of.ensures c.place_of-place.ensures c.in-Ram.is)).1 in
+    omega arith
 
 pub write-requires-in-Belt : goal.write-requires-in-Belt
-write-requires-in-Belt c = (place_lies _ _ _ _ _ (Belt _) (told _ _ _ _ _ c.bytes_of.ensures c.place_of-place.ensures c.in-Belt.is)).1
+write-requires-in-Belt c =
+    let inside = (place_lies _ _ _ _ _ (Belt _) (told _ _ _ _ _ c.bytes_of.ensures c.place_of-place.ensures c.in-Belt.is)).1 in
+    omega arith
 
 pub returns-in-Ram : goal.returns-in-Ram
 returns-in-Ram c =

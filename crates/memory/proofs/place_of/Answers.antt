@@ -1,6 +1,5 @@
 -- `memory::place_of` meets its contract, by the laws of Places.
 use mathlib.Core.Path.{sym, ◌∙◌}
-use Rattle.memory.specs.Map.{rom_base, belt_base}
 use Rattle.memory.proofs.Places.{within_true, locate_ram, locate_rom, locate_belt, place_by, word_belt, narrow_belt}
 use Rattle.memory.proofs.Places.{at_register, narrow_register, control_register, divisor_register, no_register}
 use Rattle.memory.proofs.place_of.Goals as goal
@@ -11,7 +10,7 @@ returns-then-within c = sym (place_by _ _ _ _ _ (locate_ram _ _ _ _ _ (sym c.wit
 pub overflow_sub-result : goal.overflow_sub-result
 overflow_sub-result c =
     let args = c.args in
-    (within_true rom_base args.rom args.width args.address (sym c.within-2.ensures ∙ c.if-within-2.true)).0
+    (within_true _ args.rom args.width args.address (sym c.within-2.ensures ∙ c.if-within-2.true)).0
 
 pub returns-then-within-2 : goal.returns-then-within-2
 returns-then-within-2 c =
@@ -20,7 +19,7 @@ returns-then-within-2 c =
 pub overflow_sub-result-then-width-eq4 : goal.overflow_sub-result-then-width-eq4
 overflow_sub-result-then-width-eq4 c =
     let args = c.args in
-    (within_true belt_base args.belt args.width args.address (sym c.within-3.ensures ∙ c.if-within-3.true)).0
+    (within_true _ args.belt args.width args.address (sym c.within-3.ensures ∙ c.if-within-3.true)).0
 
 pub returns-then-width-eq4 : goal.returns-then-width-eq4
 returns-then-width-eq4 c =
