@@ -38,7 +38,7 @@ SONAME = libeco32.so.$(ABI)
 SHARED_NAME = $(SONAME).$(word 2,$(subst ., ,$(VERSION))).$(word 3,$(subst ., ,$(VERSION)))
 SHARED = target/shared/$(SHARED_NAME)
 MANUAL = target/man/eco32.1
-MADE_OF_PROOFS = target/staticlib/lib*.a target/shared/libeco32.so* $(HOST) $(BELT) $(PUSHER) $(REFILL) $(BENCH) $(THREE) $(PLACEMENTS)
+MADE_OF_PROOFS = crates/*/out/lib*.a target/staticlib/lib*.a target/shared/libeco32.so* $(HOST) $(BELT) $(PUSHER) $(REFILL) $(BENCH) $(THREE) $(PLACEMENTS)
 
 # The bench: -O3 for C, as cargo's release profile has it for Rust. BENCH_FLAGS may be --steps N and --rounds N.
 BENCH = target/bench/bench
@@ -70,24 +70,24 @@ REFILL = target/refill
 
 all: $(LIBRARY) $(HOST)
 
-# The library holds an object for each crate that exports functions, and rt writes the same file with one of them alone (tools/library). So a
-# library that is not whole is made anew, however new it is.
+# The library holds an object for each crate that exports functions, as rt wrote it into that crate's out/ (tools/library). A library that is not
+# whole, or has another object than the one that lies there, is made anew, however new it is.
 WHOLE := $(shell tools/library whole && echo yes)
 .PHONY: not_whole
 
-# rt itself knows which crates have to be proved again. `rt check` proves several at a time, `rt staticlib` then finds them proved. One prover
-# more than there are cores, as in .ci/run, which says why. A prover takes up to a GiB.
-# A line for each crate is printed; the rest of what rt says is in the log. Where a proof fails no old library stays, static or shared, nor a
-# program that has one in it.
+# rt itself knows which crates have to be proved again: `rt lib` proves those and the crates that stand on them. A line for each is printed; the rest
+# of what rt says is in the log. Where a proof fails no old library stays, static or shared, nor a program that has one in it.
 $(LIBRARY): $(PROVED) $(if $(WHOLE),,not_whole)
 	@command -v rt >/dev/null || { \
 	    echo 'make: rt is not on the PATH. It proves and builds the library. Put the rt of the Rattle kit on the PATH:' \
 	        '`rt version` then prints the line of .ci/kit' >&2; exit 2; }
 	@mkdir -p $(@D)
 	@echo 'rt proves and builds $@, a line for each crate; all that it says is in $(LIBRARY_LOG)'
-	@{ { [ ! -e crates.txt ] || RT_JOBS=$${RT_JOBS:-$$(($$(nproc) + 1))} rt check $$(tools/library crates); } && tools/library build; \
-	    echo "status $$?"; } 2>&1 | tee $(LIBRARY_LOG) | \
-	    while IFS= read -r line; do case $$line in 'rt: '*' proved ('*' s)' | 'rt: '*'NOT PROVED'*) printf '%s\n' "$$line" ;; esac; done
+	@{ tools/library build; echo "status $$?"; } 2>&1 | tee $(LIBRARY_LOG) | awk \
+	    '/^rt: chose --jobs [0-9]+ for / { crate = $$NF } \
+	    /^logic=(not-)?proved/ { sub(/logic=/, "", $$1); sub(/functions=/, "", $$2); \
+	        print crate ": " $$1 ($$1 == "proved" ? ", functions: " $$2 : ""); fflush() } \
+	    /^rt: the library / { print; fflush() }'
 	@[ "$$(tail -n 1 $(LIBRARY_LOG))" = 'status 0' ] || { rm -f $(MADE_OF_PROOFS); tail -n 20 $(LIBRARY_LOG) | cut -c 1-300 >&2; \
 	    echo 'make: $@ is not proved: $(LIBRARY_LOG) has all that rt said' >&2; exit 2; }
 
@@ -160,13 +160,14 @@ $(BENCH_RUST): cargo
 all: $(SHARED) $(MANUAL)
 
 # The archive's objects, whole, and nothing beside them: no start files either. It exports what the archive exports. Should one of its calls use
-# another, it uses the library's own, as in the archive, and no other that has the name.
+# another, it uses the library's own, as in the archive, and no other that has the name. The file has three names by hard links: rt refuses a
+# symbolic link in the tree.
 $(SHARED): $(LIBRARY)
 	@mkdir -p $(@D)
 	$(CC) -shared -nostartfiles $(LDFLAGS) -Wl,-soname,$(SONAME) -Wl,-z,defs -Wl,-Bsymbolic-functions \
 	    -Wl,--whole-archive $(LIBRARY) -Wl,--no-whole-archive -o $@
-	ln -sf $(SHARED_NAME) target/shared/$(SONAME)
-	ln -sf $(SONAME) target/shared/libeco32.so
+	ln -f $@ target/shared/$(SONAME)
+	ln -f $@ target/shared/libeco32.so
 
 # The options are those that the host's help names.
 $(MANUAL): man/eco32.1.in man/page.awk include/eco32.h $(HOST)
@@ -215,5 +216,5 @@ uninstall: absolute
 	for own in '$(CMAKEDIR)' '$(DOCDIR)'; do rmdir '$(DESTDIR)'"$$own" 2>/dev/null || true; done
 
 clean:
-	rm -rf target/staticlib target/host target/bench target/shared target/man target/install
+	rm -rf target/staticlib target/host target/bench target/shared target/man target/install crates/*/out/lib*.a
 	rm -f $(BELT) $(PUSHER) $(REFILL)
