@@ -1,2 +1,2 @@
--- The law that several proofs of `cases` share.
+-- The law of `cases`.
 mod Filled

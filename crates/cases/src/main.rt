@@ -5,9 +5,9 @@
 mod costs;
 mod indexes;
 mod lengths;
+mod outcomes;
 mod reads;
 mod records;
-mod runs;
 mod slots;
 mod states;
 mod steps;
@@ -16,17 +16,20 @@ mod timers;
 mod views;
 mod writes;
 
-fn main() {
-    steps::print_steps();
-    lengths::print_lengths(false);
-    lengths::print_lengths(true);
-    states::print_machines();
-    timers::print_timers();
-    indexes::print_indexes();
-    slots::print_slots();
-    costs::print_charges();
-    steps::print_order();
-    reads::print_reads();
-    writes::print_writes();
-    views::print_views();
+use std::io;
+
+fn main(rt: HostRuntime) -> io::Result<()> {
+    steps::print_steps(&rt)?;
+    lengths::print_lengths(&rt, false)?;
+    lengths::print_lengths(&rt, true)?;
+    states::print_machines(&rt)?;
+    timers::print_timers(&rt)?;
+    indexes::print_indexes(&rt)?;
+    slots::print_slots(&rt)?;
+    costs::print_charges(&rt)?;
+    steps::print_order(&rt)?;
+    reads::print_reads(&rt)?;
+    writes::print_writes(&rt)?;
+    views::print_views(&rt)?;
+    Ok(())
 }

@@ -1,6 +1,7 @@
 // Runs whose last step loads or stores, or does not: the slot that they answer (document 02, job 2).
-use crate::runs;
+use crate::outcomes;
 use processor::Processor;
+use std::io;
 use timer::Timer;
 
 // Programs of two words. R2 has the address, and R1 is loaded or stored.
@@ -44,8 +45,15 @@ fn machine(address: u32) -> Processor {
     p
 }
 
-fn print_slots_of(name: &[u8], address: u32, program: u64, wanted: u64) {
-    runs::print_runs(
+fn print_slots_of(
+    rt: &impl Print,
+    name: &[u8],
+    address: u32,
+    program: u64,
+    wanted: u64,
+) -> io::Result<()> {
+    outcomes::print_runs(
+        rt,
         name,
         machine(address),
         Timer::reset(),
@@ -54,45 +62,73 @@ fn print_slots_of(name: &[u8], address: u32, program: u64, wanted: u64) {
         4096,
         1024,
         wanted,
-    );
+    )
 }
 
 // By an entry, by the lower of two, and direct-mapped; stores that ROM, belt and timer answer.
-fn print_served() {
-    print_slots_of(b"# steps, load by entry 0", 0x2000, LDW_ADDI, 1);
-    print_slots_of(b"# steps, load by entry 31", 0x3000, LDW_ADDI, 1);
-    print_slots_of(b"# steps, load by entry 5 or 9", 0x1FFC, LDW_ADDI, 1);
-    print_slots_of(b"# steps, byte load by entry 5 or 9", 0x1FFF, LDB, 1);
-    print_slots_of(b"# steps, store by entry 5 or 9", 0x1000, STW, 1);
-    print_slots_of(b"# steps, direct-mapped load", 0xC000_0000, LDW_ADDI, 1);
-    print_slots_of(b"# steps, direct-mapped byte store", 0xC000_0FFF, STB, 1);
-    print_slots_of(b"# steps, store to ROM by entry 12", 0x5000, STW, 1);
-    print_slots_of(b"# steps, store to the belt by entry 13", 0x6000, STW, 1);
-    print_slots_of(b"# steps, store to the timer by entry 14", 0x7004, STW, 1);
+fn print_served(rt: &impl Print) -> io::Result<()> {
+    print_slots_of(rt, b"# steps, load by entry 0", 0x2000, LDW_ADDI, 1)?;
+    print_slots_of(rt, b"# steps, load by entry 31", 0x3000, LDW_ADDI, 1)?;
+    print_slots_of(rt, b"# steps, load by entry 5 or 9", 0x1FFC, LDW_ADDI, 1)?;
+    print_slots_of(rt, b"# steps, byte load by entry 5 or 9", 0x1FFF, LDB, 1)?;
+    print_slots_of(rt, b"# steps, store by entry 5 or 9", 0x1000, STW, 1)?;
+    print_slots_of(rt, b"# steps, direct-mapped load", 0xC000_0000, LDW_ADDI, 1)?;
+    print_slots_of(
+        rt,
+        b"# steps, direct-mapped byte store",
+        0xC000_0FFF,
+        STB,
+        1,
+    )?;
+    print_slots_of(rt, b"# steps, store to ROM by entry 12", 0x5000, STW, 1)?;
+    print_slots_of(
+        rt,
+        b"# steps, store to the belt by entry 13",
+        0x6000,
+        STW,
+        1,
+    )?;
+    print_slots_of(
+        rt,
+        b"# steps, store to the timer by entry 14",
+        0x7004,
+        STW,
+        1,
+    )?;
+    Ok(())
 }
 
-fn print_faulted() {
-    print_slots_of(b"# steps, load that times out", 0x8000, LDW_ADDI, 1);
-    print_slots_of(b"# steps, byte store to the belt", 0x6000, STB, 1);
-    print_slots_of(b"# steps, load without an entry", 0x9000, LDW_ADDI, 1);
-    print_slots_of(b"# steps, store by a read-only entry", 0x3000, STW, 1);
-    print_slots_of(b"# steps, load by an invalid entry", 0x4000, LDW_ADDI, 1);
-    print_slots_of(b"# steps, load at an odd address", 0x2001, LDW_ADDI, 1);
+fn print_faulted(rt: &impl Print) -> io::Result<()> {
+    print_slots_of(rt, b"# steps, load that times out", 0x8000, LDW_ADDI, 1)?;
+    print_slots_of(rt, b"# steps, byte store to the belt", 0x6000, STB, 1)?;
+    print_slots_of(rt, b"# steps, load without an entry", 0x9000, LDW_ADDI, 1)?;
+    print_slots_of(rt, b"# steps, store by a read-only entry", 0x3000, STW, 1)?;
+    print_slots_of(
+        rt,
+        b"# steps, load by an invalid entry",
+        0x4000,
+        LDW_ADDI,
+        1,
+    )?;
+    print_slots_of(rt, b"# steps, load at an odd address", 0x2001, LDW_ADDI, 1)?;
+    Ok(())
 }
 
 // The last step's alone. The last run is refused, and makes no step.
-fn print_last() {
-    print_slots_of(b"# steps, load", 0x2000, LDW_ADDI, 0);
-    print_slots_of(b"# steps, load, addition", 0x2000, LDW_ADDI, 2);
-    print_slots_of(b"# steps, addition, load", 0x2000, ADDI_LDW, 1);
-    print_slots_of(b"# steps, addition, load", 0x2000, ADDI_LDW, 2);
-    print_slots_of(b"# steps, trap, load", 0x2000, TRAP_LDW, 2);
-    print_slots_of(b"# steps, load, trap", 0x2000, LDW_TRAP, 2);
-    print_slots_of(b"# steps, load", 0x2000, LDW_ADDI, 1_000_001);
+fn print_last(rt: &impl Print) -> io::Result<()> {
+    print_slots_of(rt, b"# steps, load", 0x2000, LDW_ADDI, 0)?;
+    print_slots_of(rt, b"# steps, load, addition", 0x2000, LDW_ADDI, 2)?;
+    print_slots_of(rt, b"# steps, addition, load", 0x2000, ADDI_LDW, 1)?;
+    print_slots_of(rt, b"# steps, addition, load", 0x2000, ADDI_LDW, 2)?;
+    print_slots_of(rt, b"# steps, trap, load", 0x2000, TRAP_LDW, 2)?;
+    print_slots_of(rt, b"# steps, load, trap", 0x2000, LDW_TRAP, 2)?;
+    print_slots_of(rt, b"# steps, load", 0x2000, LDW_ADDI, 1_000_001)?;
+    Ok(())
 }
 
-pub fn print_slots() {
-    print_served();
-    print_faulted();
-    print_last();
+pub fn print_slots(rt: &impl Print) -> io::Result<()> {
+    print_served(rt)?;
+    print_faulted(rt)?;
+    print_last(rt)?;
+    Ok(())
 }

@@ -1,21 +1,22 @@
-// Text and numbers on standard output.
-use libc::STDOUT_FILENO;
+// Text and numbers on standard output. An error, here and of all that prints by these, is that of a write; what was written before it stands.
+use std::io;
 
-pub fn print(text: &[u8]) {
-    io::write_all(STDOUT_FILENO, text);
+pub fn print(rt: &impl Print, text: &[u8]) -> io::Result<()> {
+    rt.write_all(text)
 }
 
 // A text, with each # replaced by the next of up to four numbers.
-pub fn print_filled(text: &[u8], numbers: [u64; 4]) {
+pub fn print_filled(rt: &impl Print, text: &[u8], numbers: [u64; 4]) -> io::Result<()> {
     let mut next = 0;
     let mut i = 0;
     while i < text.len() {
         if text[i] == b'#' {
-            io::print_decimal(STDOUT_FILENO, numbers[next % 4]);
+            rt.print(numbers[next % 4])?;
             next = next % 4 + 1;
         } else {
-            print(&text[i..i + 1]);
+            print(rt, &text[i..i + 1])?;
         }
         i += 1;
     }
+    Ok(())
 }

@@ -3,11 +3,14 @@
 
 mod report;
 
-ghost use Rattle.std.specs.Prelude.{true, ◌≡◌, ◌-◌, ◌≤◌};
+ghost use Rattle.std.specs.Prelude.{true, ◌≡◌, ◌-◌, ◌≤◌, IfOk};
 
-use libc::STDOUT_FILENO;
 use processor::Processor;
 use replay::{Counts, Progress};
+use std::fs::File;
+use std::io::{ErrorKind, Read};
+use std::rt::Files;
+use std::{io, str};
 use timer::Timer;
 
 // The bytes of a part, and the most parts that are read: a longer file is one without an end.
@@ -28,9 +31,10 @@ fn parts_left(n: usize, left: u32) -> u32
     left - 1
 }
 
-// RAM of 8,192 bytes, ROM of 4,096 and a belt of 1,024. What is counted is printed and answered.
-fn replay_file(fd: i32) -> Counts
-    ensures { result.mismatches ≡ 0 → result.ended ≡ true }
+// RAM of 8,192 bytes, ROM of 4,096 and a belt of 1,024. What is counted is printed and answered. A part that cannot be read counts as an
+// empty one, which is the last. An error is that of a write.
+fn replay_file(rt: &impl Print, file: &mut impl Read) -> io::Result<Counts>
+    ensures { IfOk result (λ r. r.mismatches ≡ 0 → r.ended ≡ true) }
 {
     let mut xrecord = [0u8; record_layout::LENGTH];
     let mut xram = [0u8; 8192];
@@ -48,8 +52,8 @@ fn replay_file(fd: i32) -> Counts
     };
     let mut left = MOST_PARTS;
     while left > 0 {
-        let mut buffer = io::large_buffer();
-        let n = io::read_full(fd, &mut buffer);
+        let mut buffer = [0u8; PART];
+        let n = reading::read_full(file, &mut buffer).unwrap_or(0);
         progress = replay::part(
             progress,
             &mut xrecord,
@@ -66,24 +70,32 @@ fn replay_file(fd: i32) -> Counts
         left = parts_left(n, left);
     }
     let total = replay::finish(progress.counts);
-    report::print(total, &opcodes, &exceptions);
-    total
+    report::print(rt, total, &opcodes, &exceptions)?;
+    Ok(total)
 }
 
-// A file that cannot be opened is one without an end.
-pub fn run(path: &[u8]) -> Counts
-    ensures { result.mismatches ≡ 0 → result.ended ≡ true }
-{
-    let fd = os::open_read(path);
-    if fd < 0 {
-        io::write_all(STDOUT_FILENO, b"the file cannot be opened\n");
-        return replay::finish(Counts::zero());
+// A path that is not UTF-8 text is one that cannot be opened.
+fn open<R: Files>(rt: &R, path: &[u8]) -> io::Result<R::File> {
+    match str::from_utf8(path) {
+        Ok(text) => File::open(rt, text),
+        Err(_) => Err(io::Error::from(ErrorKind::InvalidInput)),
     }
-    let counts = replay_file(fd);
-    libc::close(fd);
-    counts
 }
 
-fn main() {
-    run(b"vectors.bin");
+// A file that cannot be opened is one without an end. An error is that of a write.
+pub fn run(rt: &(impl Files + Print), path: &[u8]) -> io::Result<Counts>
+    ensures { IfOk result (λ r. r.mismatches ≡ 0 → r.ended ≡ true) }
+{
+    match open(rt, path) {
+        Ok(mut file) => replay_file(rt, &mut file),
+        Err(_) => {
+            rt.write_all(b"the file cannot be opened\n")?;
+            Ok(replay::finish(Counts::zero()))
+        }
+    }
+}
+
+fn main(rt: HostRuntime) -> io::Result<()> {
+    run(&rt, b"vectors.bin")?;
+    Ok(())
 }

@@ -1,18 +1,17 @@
-// What a replay counted, in lines of text.
-ghost use Rattle.std.specs.Prelude.{◌≡◌, ◌<◌, length};
+// What a replay counted, in lines of text. An error is that of a write; the lines before it are printed.
+ghost use Rattle.std.specs.Prelude.{◌≡◌, ◌<◌, length, IfOk};
 
-use libc::STDOUT_FILENO;
 use replay::Counts;
+use std::io;
 
-fn print_text(text: &[u8]) {
-    io::write_all(STDOUT_FILENO, text);
+fn print_text(rt: &impl Print, text: &[u8]) -> io::Result<()> {
+    rt.write_all(text)
 }
 
 // A text and a number, as one line.
-fn print_count(text: &[u8], n: u32) {
-    print_text(text);
-    io::print_decimal(STDOUT_FILENO, n as u64);
-    print_text(b"\n");
+fn print_count(rt: &impl Print, text: &[u8], n: u32) -> io::Result<()> {
+    print_text(rt, text)?;
+    println!(rt; "{n}")
 }
 
 // The lowest hexadecimal digit.
@@ -25,90 +24,113 @@ fn digit(d: usize) -> u8 {
 }
 
 // A row: two digits, a name and a count. Where the name is a dash, there is no row.
-fn print_row(high: u8, low: u8, name: &[u8], n: u32)
+fn print_row(rt: &impl Print, high: u8, low: u8, name: &[u8], n: u32) -> io::Result<()>
     requires { 0 < length name.now }
 {
     if name[0] != b'-' {
         let start = [b' ', b' ', high, low, b' '];
-        print_text(&start);
-        print_text(name);
-        print_count(b" ", n);
+        print_text(rt, &start)?;
+        print_text(rt, name)?;
+        print_count(rt, b" ", n)?;
     }
+    Ok(())
 }
 
 // A row for each count from the first on that has a name: the names stand one after the other, each of the given width.
-fn print_rows(counts: &[u32], first: usize, base: usize, names: &[u8], width: usize)
+fn print_rows(
+    rt: &impl Print,
+    counts: &[u32],
+    first: usize,
+    base: usize,
+    names: &[u8],
+    width: usize,
+) -> io::Result<()>
     requires { (0 < base) × (0 < width) }
 {
     let mut i = first;
     let mut at = 0;
     while i < counts.len() {
         if names.len() - at < width {
-            return;
+            return Ok(());
         }
         print_row(
+            rt,
             digit(i / base),
             digit(i % base),
             &names[at..at + width],
             counts[i],
-        );
+        )?;
         i += 1;
         at += width;
     }
+    Ok(())
 }
 
-fn opcode_rows(counts: &[u32], first: usize, names: &[u8]) {
-    print_rows(counts, first, 16, names, 5);
+fn opcode_rows(rt: &impl Print, counts: &[u32], first: usize, names: &[u8]) -> io::Result<()> {
+    print_rows(rt, counts, first, 16, names, 5)
 }
 
-fn print_opcodes(counts: &[u32]) {
-    print_text(b"completed steps by opcode:\n");
-    opcode_rows(counts, 0, b"ADD  ADDI SUB  SUBI MUL  MULI MULU MULUI");
-    opcode_rows(counts, 8, b"DIV  DIVI DIVU DIVUIREM  REMI REMU REMUI");
-    opcode_rows(counts, 16, b"AND  ANDI OR   ORI  XOR  XORI XNOR XNORI");
-    opcode_rows(counts, 24, b"SLL  SLLI SLR  SLRI SAR  SARI -    LDHI ");
-    opcode_rows(counts, 32, b"BEQ  BNE  BLE  BLEU BLT  BLTU BGE  BGEU ");
-    opcode_rows(counts, 40, b"BGT  BGTU J    JR   JAL  JALR TRAP RFX  ");
-    opcode_rows(counts, 48, b"LDW  LDH  LDHU LDB  LDBU STW  STH  STB  ");
-    opcode_rows(counts, 56, b"MVFS MVTS TBS  TBWR TBRI TBWI -    -    ");
+fn print_opcodes(rt: &impl Print, counts: &[u32]) -> io::Result<()> {
+    print_text(rt, b"completed steps by opcode:\n")?;
+    opcode_rows(rt, counts, 0, b"ADD  ADDI SUB  SUBI MUL  MULI MULU MULUI")?;
+    opcode_rows(rt, counts, 8, b"DIV  DIVI DIVU DIVUIREM  REMI REMU REMUI")?;
+    opcode_rows(rt, counts, 16, b"AND  ANDI OR   ORI  XOR  XORI XNOR XNORI")?;
+    opcode_rows(rt, counts, 24, b"SLL  SLLI SLR  SLRI SAR  SARI -    LDHI ")?;
+    opcode_rows(rt, counts, 32, b"BEQ  BNE  BLE  BLEU BLT  BLTU BGE  BGEU ")?;
+    opcode_rows(rt, counts, 40, b"BGT  BGTU J    JR   JAL  JALR TRAP RFX  ")?;
+    opcode_rows(rt, counts, 48, b"LDW  LDH  LDHU LDB  LDBU STW  STH  STB  ")?;
+    opcode_rows(rt, counts, 56, b"MVFS MVTS TBS  TBWR TBRI TBWI -    -    ")?;
+    Ok(())
 }
 
-fn exception_rows(counts: &[u32], first: usize, names: &[u8]) {
-    print_rows(counts, first, 10, names, 22);
+fn exception_rows(rt: &impl Print, counts: &[u32], first: usize, names: &[u8]) -> io::Result<()> {
+    print_rows(rt, counts, first, 10, names, 22)
 }
 
-fn print_exceptions(counts: &[u32]) {
+fn print_exceptions(rt: &impl Print, counts: &[u32]) -> io::Result<()> {
     let interrupts: &[u8] =
         b"interrupt             interrupt             interrupt             interrupt             ";
-    print_text(b"accepted exceptions by EID:\n");
-    exception_rows(counts, 0, interrupts);
-    exception_rows(counts, 4, interrupts);
-    exception_rows(counts, 8, interrupts);
-    exception_rows(counts, 12, interrupts);
-    exception_rows(counts, 16, b"bus timeout           illegal instruction   ");
-    exception_rows(counts, 18, b"privileged instructiondivision by zero      ");
-    exception_rows(counts, 20, b"trap                  TLB miss              ");
-    exception_rows(counts, 22, b"TLB write             TLB invalid           ");
-    exception_rows(counts, 24, b"illegal address       privileged address    ");
+    let bus: &[u8] = b"bus timeout           illegal instruction   ";
+    let privileged: &[u8] = b"privileged instructiondivision by zero      ";
+    let trap: &[u8] = b"trap                  TLB miss              ";
+    let write: &[u8] = b"TLB write             TLB invalid           ";
+    let address: &[u8] = b"illegal address       privileged address    ";
+    print_text(rt, b"accepted exceptions by EID:\n")?;
+    exception_rows(rt, counts, 0, interrupts)?;
+    exception_rows(rt, counts, 4, interrupts)?;
+    exception_rows(rt, counts, 8, interrupts)?;
+    exception_rows(rt, counts, 12, interrupts)?;
+    exception_rows(rt, counts, 16, bus)?;
+    exception_rows(rt, counts, 18, privileged)?;
+    exception_rows(rt, counts, 20, trap)?;
+    exception_rows(rt, counts, 22, write)?;
+    exception_rows(rt, counts, 24, address)?;
+    Ok(())
 }
 
-fn print_mismatches(counts: Counts) {
-    print_count(b"mismatches: ", counts.mismatches);
-    print_count(b"bad commands: ", counts.bad);
+fn print_mismatches(rt: &impl Print, counts: Counts) -> io::Result<()> {
+    print_count(rt, b"mismatches: ", counts.mismatches)?;
+    print_count(rt, b"bad commands: ", counts.bad)?;
     if counts.mismatches > 0 {
-        print_count(b"first mismatch in case ", counts.firstcase);
-        print_count(b"at its step ", counts.firststep);
+        print_count(rt, b"first mismatch in case ", counts.firstcase)?;
+        print_count(rt, b"at its step ", counts.firststep)?;
     }
+    Ok(())
 }
 
 // Answers the mismatches that it was given.
-pub fn print(counts: Counts, opcodes: &[u32], exceptions: &[u32]) -> u32
-    ensures { result ≡ counts.mismatches }
+pub fn print(
+    rt: &impl Print,
+    counts: Counts,
+    opcodes: &[u32],
+    exceptions: &[u32],
+) -> io::Result<u32>
+    ensures { IfOk result (λ n. n ≡ counts.mismatches) }
 {
-    print_count(b"cases: ", counts.cases);
-    print_count(b"steps: ", counts.steps);
-    print_opcodes(opcodes);
-    print_exceptions(exceptions);
-    print_mismatches(counts);
-    counts.mismatches
+    print_count(rt, b"cases: ", counts.cases)?;
+    print_count(rt, b"steps: ", counts.steps)?;
+    print_opcodes(rt, opcodes)?;
+    print_exceptions(rt, exceptions)?;
+    print_mismatches(rt, counts)?;
+    Ok(counts.mismatches)
 }

@@ -4,6 +4,7 @@ ghost use Rattle.std.specs.Prelude.{◌≤◌};
 use crate::text;
 use machines::Outcome;
 use processor::Processor;
+use std::io;
 use timer::Timer;
 
 // What RAM and belt hold before each run, and the buffer of a record before it is written.
@@ -12,18 +13,18 @@ pub const FILL: u8 = 0x5A;
 // A program of two words, ADDI R1,R1,1 and J by -2: R1 counts the turns.
 pub const COUNT: u64 = 0x0421_0001_ABFF_FFFE;
 
-fn print_outcome(outcome: Outcome) {
+fn print_outcome(rt: &impl Print, outcome: Outcome) -> io::Result<()> {
     let numbers = [
         outcome.refusal as u64,
         outcome.steps as u64,
         outcome.eid as u64,
         outcome.slot as u64,
     ];
-    text::print_filled(b": refusal #, # steps, EID #, slot #", numbers);
+    text::print_filled(rt, b": refusal #, # steps, EID #, slot #", numbers)?;
     if outcome.unchanged {
-        text::print(b", unchanged\n");
+        text::print(rt, b", unchanged\n")
     } else {
-        text::print_filled(b", changed, R1 #\n", [outcome.register as u64, 0, 0, 0]);
+        text::print_filled(rt, b", changed, R1 #\n", [outcome.register as u64, 0, 0, 0])
     }
 }
 
@@ -80,6 +81,7 @@ pub fn outcome_of(
 }
 
 pub fn print_run(
+    rt: &impl Print,
     kind: bool,
     p: Processor,
     timer: Timer,
@@ -88,14 +90,18 @@ pub fn print_run(
     rom: usize,
     belt: usize,
     wanted: u64,
-)
+) -> io::Result<()>
     requires { (ram ≤ 8192) × (rom ≤ 8192) × (belt ≤ 2048) }
 {
-    print_outcome(outcome_of(kind, p, timer, program, ram, rom, belt, wanted));
+    print_outcome(
+        rt,
+        outcome_of(kind, p, timer, program, ram, rom, belt, wanted),
+    )
 }
 
 // Both kinds of a run, each after the name of the case. In the name # stands for the steps wanted, then for the timer's numbers.
 pub fn print_runs(
+    rt: &impl Print,
     name: &[u8],
     p: Processor,
     timer: Timer,
@@ -104,7 +110,7 @@ pub fn print_runs(
     rom: usize,
     belt: usize,
     wanted: u64,
-)
+) -> io::Result<()>
     requires { (ram ≤ 8192) × (rom ≤ 8192) × (belt ≤ 2048) }
 {
     let numbers = [
@@ -113,10 +119,11 @@ pub fn print_runs(
         timer.counter as u64,
         timer.control as u64,
     ];
-    text::print(b"plain run, ");
-    text::print_filled(name, numbers);
-    print_run(false, p, timer, program, ram, rom, belt, wanted);
-    text::print(b"run to exception, ");
-    text::print_filled(name, numbers);
-    print_run(true, p, timer, program, ram, rom, belt, wanted);
+    text::print(rt, b"plain run, ")?;
+    text::print_filled(rt, name, numbers)?;
+    print_run(rt, false, p, timer, program, ram, rom, belt, wanted)?;
+    text::print(rt, b"run to exception, ")?;
+    text::print_filled(rt, name, numbers)?;
+    print_run(rt, true, p, timer, program, ram, rom, belt, wanted)?;
+    Ok(())
 }

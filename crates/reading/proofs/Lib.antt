@@ -1,0 +1,2 @@
+-- The laws of `reading`.
+pub mod Filling
