@@ -1,5 +1,5 @@
--- How many bytes are written, by how many were read.
-use mathlib.Core.Path.{◌≡◌, refl, ap, ◌∙◌}
+-- How many bytes were read, and how many are written by that.
+use mathlib.Core.Path.{◌≡◌, refl, ap, sym, ◌∙◌}
 use mathlib.Core.Bool.{Bool, true, false, cond}
 use mathlib.Core.List.{List}
 use Prim.Native.Nat.{ℕ}
@@ -7,9 +7,17 @@ use native.Mathlib.Omega.{arith}
 use lib.Dec.{ltb}
 use lib.ListN.{length, take}
 use borrow.Author.Tests.{ltb-true, ltb-false}
+use Rattle.std.specs.Prelude.{Result, Ok, Err}
+use Rattle.std.specs.Result.{result_unwrap_or}
+use Rattle.std.specs.Io.{ReadsAtMost}
 use Rattle.belt_text.specs.Text.{short_input, count_of}
 use Rattle.belt_trace.specs.Trace.{belt_text, answer_of}
 use Rattle.belt_trace.proofs.Lines.{text_length, answer_short, answer_full}
+
+-- of a read that fails, none
+pub read_or_none : {E : Type 0} (r : Result ℕ E) (buf : List ℕ) (n : ℕ) → ReadsAtMost r buf → n ≡ result_unwrap_or r 0 → length (take n buf) ≡ n
+read_or_none (Ok k) buf n h e = rw e (sym h.1)
+read_or_none (Err x) buf n h e = rw e
 
 count_short : (text : List ℕ) → length text ≡ 56 → count_of short_input text ≡ 12
 unfolding count_of short_input
