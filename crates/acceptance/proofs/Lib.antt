@@ -1,3 +1,5 @@
 -- The theorems of `acceptance`.
 pub mod Causes
 pub mod NeverRefused
+pub mod OneStep
+pub mod Taken

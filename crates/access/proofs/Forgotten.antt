@@ -6,20 +6,18 @@ use Rattle.tlb.specs.Lookup.{no_slot}
 use Rattle.timer.specs.declared.Timer.{Timer}
 use Rattle.memory.specs.Map.{Memory}
 use Rattle.memory.specs.Access.{load_of, store_answer}
-use Rattle.memory.specs.declared.Loaded.{Loaded}
-use Rattle.memory.specs.declared.Loaded.TheVariants as loaded
-use Rattle.memory.specs.declared.Stored.{Stored}
-use Rattle.memory.specs.declared.Stored.TheVariants as stored
-use Rattle.translation.specs.Translation.{translated}
-use Rattle.translation.specs.declared.Translation.{Translation}
-use Rattle.translation.specs.declared.Translation.TheVariants.{Physical, TlbMiss, TlbWrite, TlbInvalid, IllegalAddress, PrivilegedAddress}
+use Rattle.memory.specs.Loaded.{Loaded}
+use Rattle.memory.specs.Loaded as loaded
+use Rattle.memory.specs.Stored.{Stored}
+use Rattle.memory.specs.Stored as stored
+use Rattle.translation.specs.Translation.{translated, Translation, Physical, TlbMiss, TlbWrite, TlbInvalid, IllegalAddress, PrivilegedAddress}
 use Rattle.translation.proofs.Slots.{Former, Place, Fault, forgotten, former, slot_forgotten}
 use Rattle.instructions.specs.Operands.{Surroundings}
 use Rattle.instructions.specs.Action.{Action, Write, Store, System, Exception}
 use Rattle.access.specs.Reads.{answered, read_through, read_from}
 use Rattle.access.specs.Writes.{settled, store_through, store_to}
-use Rattle.access.specs.declared.Read.{Read}
-use Rattle.access.specs.declared.Read.TheVariants as read
+use Rattle.access.specs.Read.{Read}
+use Rattle.access.specs.Read as read
 
 -- ---- a read
 

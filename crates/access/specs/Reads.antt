@@ -2,16 +2,14 @@
 use Rattle.std.specs.Prelude.{false, ℕ}
 use Rattle.words.specs.Identifiers.{no_exception}
 use Rattle.tlb.specs.Lookup.{no_slot}
-use Rattle.translation.specs.Translation.{translated, resolved}
-use Rattle.translation.specs.declared.Translation.{Translation}
+use Rattle.translation.specs.Translation.{translated, resolved, Translation}
 use Rattle.timer.specs.declared.Timer.{Timer}
 use Rattle.memory.specs.Map.{Memory}
 use Rattle.memory.specs.Access.{load_of, loaded_eid}
-use Rattle.memory.specs.declared.Loaded.{Loaded}
-use Rattle.memory.specs.declared.Loaded.TheVariants as loaded
+use Rattle.memory.specs.Loaded.{Loaded}
+use Rattle.memory.specs.Loaded as loaded
 use Rattle.instructions.specs.Operands.{Surroundings}
-use Rattle.access.specs.declared.Read.{Read}
-use Rattle.access.specs.declared.Read.TheVariants.{Value, Fault}
+use Rattle.access.specs.Read.{Read, Value, Fault}
 
 -- a value with the slot that served it, or the fault of the translation or the bus timeout
 

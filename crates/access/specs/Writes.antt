@@ -1,12 +1,11 @@
 -- What a store through the translation comes to (manual, 3.5.6 to 3.5.8; document 01, "One step"): a write at a physical address, with
 -- the slot that served it (document 02, job 2), or a fault.
 use Rattle.std.specs.Prelude.{true, ℕ}
-use Rattle.translation.specs.Translation.{translated, resolved}
-use Rattle.translation.specs.declared.Translation.{Translation}
+use Rattle.translation.specs.Translation.{translated, resolved, Translation}
 use Rattle.memory.specs.Map.{Memory}
 use Rattle.memory.specs.Access.{store_answer, stored_eid}
-use Rattle.memory.specs.declared.Stored.{Stored}
-use Rattle.memory.specs.declared.Stored.TheVariants as stored
+use Rattle.memory.specs.Stored.{Stored}
+use Rattle.memory.specs.Stored as stored
 use Rattle.instructions.specs.Operands.{Surroundings}
 use Rattle.instructions.specs.Action.{Action, Store, Exception}
 

@@ -9,10 +9,8 @@ pub fn get_words(s: &[u8], at: usize, stride: usize, words: &mut [u32])
     requires { at + length words.old * stride + 4 ≤ length s.now + stride }
     ensures { words.new ≡ words_at (length words.old) s.now at stride }
 {
-    let mut i = 0;
-    while i < words.len() {
-        words[i] = endian::read_word(s, at + i * stride);
-        i += 1;
+    for (i, word) in words.iter_mut().enumerate() {
+        *word = endian::read::<4>(s, at + i * stride);
     }
 }
 
@@ -20,9 +18,7 @@ pub fn put_words(s: &mut [u8], at: usize, stride: usize, words: &[u32])
     requires { at + length words.now * stride + 4 ≤ length s.old + stride }
     ensures { s.new ≡ words_put s.old at stride words.now }
 {
-    let mut i = 0;
-    while i < words.len() {
-        endian::write_word(s, at + i * stride, words[i]);
-        i += 1;
+    for (i, word) in words.iter().enumerate() {
+        endian::write::<4>(s, at + i * stride, *word);
     }
 }

@@ -3,17 +3,15 @@
 
 ghost use Rattle.std.specs.Prelude.{◌≡◌, ◌+◌, ◌≤◌, length};
 ghost use Rattle.std.proofs.Math.Seq.{paste};
-ghost use Rattle.machine.specs.Machine.{before, after};
+ghost use Rattle.machine.specs.Machine.{machine_of};
 ghost use Rattle.step.specs.Step.{stepped, step_of};
 ghost use Rattle.belt_step.specs.Line.{step_line};
 
-use processor::Processor;
+use machine::State;
 use run_loop::Stepped;
-use timer::Timer;
 
 pub fn advance(
-    p: Processor,
-    timer: Timer,
+    state: State,
     ram: &mut [u8],
     rom: &[u8],
     belt: &mut [u8],
@@ -22,13 +20,12 @@ pub fn advance(
     at: usize,
 ) -> Stepped
     requires { at + 14 ≤ length text.old }
-    ensures state { stepped (after result.processor result.timer ram.new rom.now belt.new) result.eid result.slot (step_of (before p timer ram.old rom.now belt.old) 0).event.opcode
-        ≡ step_of (before p timer ram.old rom.now belt.old) 0 }
-    ensures text { text.new ≡ paste text.old at (step_line step (before p timer ram.old rom.now belt.old)) 14 }
+    ensures state { let told = step_of (machine_of state ram.old rom.now belt.old) 0 in
+        stepped (machine_of result.state ram.new rom.now belt.new) result.eid result.slot told.event.opcode ≡ told }
+    ensures text { text.new ≡ paste text.old at (step_line step (machine_of state ram.old rom.now belt.old)) 14 }
 {
-    let stepped = run_loop::step(p, timer, ram, rom, belt, 0);
-    let next = stepped.processor;
-    let row = belt_text::line(step, next.pc, stepped.eid);
+    let stepped = run_loop::step(state, ram, rom, belt, 0);
+    let row = belt_text::line(step, stepped.state.processor.pc, stepped.eid);
     belt_text::put(text, at, &row);
     stepped
 }

@@ -13,16 +13,15 @@ use processor::Processor;
 pub type Line = [u8; 14];
 
 // The lowest hexadecimal digit of a word.
+#[tactic(auto, unfolding(crate::specs::Line::hex_digit))]
 fn hex_digit(w: u32) -> u8
     ensures { result ≡ hex_digit (w % 16) }
 {
     let d = (w % 16) as u8;
-    if d < 10 {
-        return b'0' + d;
-    }
-    b'A' + (d - 10)
+    if d < 10 { b'0' + d } else { b'A' + (d - 10) }
 }
 
+#[tactic(auto, unfolding(crate::specs::Line::decimal_digit))]
 fn decimal_digit(n: u32) -> u8
     ensures { result ≡ decimal_digit n }
 {
@@ -34,11 +33,13 @@ fn eid_digit(eid: u32, n: u32) -> u8
     ensures { result ≡ cond (ltb eid no_exception) (decimal_digit n) 45 }
 {
     if eid < Processor::NO_EXCEPTION {
-        return decimal_digit(n);
+        decimal_digit(n)
+    } else {
+        b'-'
     }
-    b'-'
 }
 
+// Digit by digit, since there is no heap, and a formatter answers an error that cannot come here.
 pub fn line(step: u32, pc: u32, eid: u32) -> Line
     ensures { result ≡ line_of step pc eid }
 {
@@ -64,11 +65,7 @@ pub fn put(text: &mut [u8], at: usize, bytes: &[u8])
     requires { at + length bytes.now ≤ length text.old }
     ensures { text.new ≡ paste text.old at bytes.now (length bytes.now) }
 {
-    let mut i = 0;
-    while i < bytes.len() {
-        text[at + i] = bytes[i];
-        i += 1;
-    }
+    text[at..at + bytes.len()].copy_from_slice(bytes);
 }
 
 pub fn short_input(text: &mut [u8]) -> usize

@@ -1,5 +1,5 @@
 -- The lines of a trace written one after the other, and the answer to an input.
-use mathlib.Core.Path.{◌≡◌, refl, ap, sym, ◌∙◌}
+use mathlib.Core.Path.{◌≡◌, refl, sym, ◌∙◌, subst}
 use mathlib.Core.List.{List, ◌++◌, append_assoc, append-nil}
 use Prim.Native.Nat.{ℕ, suc, ◌+◌, ◌*◌, ◌-◌, ◌<◌, ◌≤◌}
 use lib.ListN.{length, take, drop, replicate, length-append, take-append-drop}
@@ -8,9 +8,8 @@ use native.Mathlib.Omega.{arith}
 use borrow.Author.Tests.{lt-ltb, le-ltb}
 use Rattle.processor.specs.State.{at_reset}
 use Rattle.timer.specs.Timer.{timer_at_reset}
-use Rattle.timer.specs.declared.Timer.{Timer}
-use Rattle.processor.specs.declared.Processor.{Processor}
-use Rattle.machine.specs.Machine.{Machine, machine}
+use Rattle.machine.specs.declared.State.{State}
+use Rattle.machine.specs.Machine.{Machine, machine_of, state}
 use Rattle.belt_text.specs.Text.{short_input}
 use Rattle.belt_step.specs.Line.{following, step_line}
 use Rattle.belt_step.proofs.LineLaws.{line_length}
@@ -18,73 +17,50 @@ use Rattle.belt_trace.specs.Trace.{lines_from, at_start, belt_text, answer_of}
 
 -- ---- line after line
 
--- what holds before a step of the trace: of the text at its start, the machine, the text so far, and the step's number and place
-pub record Tracing (rom s : List ℕ) (m : Machine) (t : List ℕ) (step at : ℕ) : Type 0 where
-  pub first : 1 ≤ step
-  pub last : step ≤ 5
-  pub place : at + 14 ≡ step * 14
-  pub room : 56 ≤ length s
+-- what holds after n steps of the trace: of the text at its start, the machine, and the text so far
+pub record Tracing (rom s : List ℕ) (m : Machine) (t : List ℕ) (n : ℕ) : Type 0 where
   pub kept : length t ≡ length s
-  pub ram : length m.memory.ram ≡ 4096
-  pub belt : length m.memory.belt ≡ 1024
-  pub lines : belt_text rom ≡ take at t ++ lines_from (5 - step) step m
-  pub rest : drop at t ≡ drop at s
+  pub lines : belt_text rom ≡ take (n * 14) t ++ lines_from (4 - n) (n + 1) m
+  pub rest : drop (n * 14) t ≡ drop (n * 14) s
 
-pub started : (rom s : List ℕ) {p : Processor} {timer : Timer} → p ≡ at_reset → timer ≡ timer_at_reset → 56 ≤ length s
-    → Tracing rom s (machine p timer (replicate 4096 0) rom (replicate 1024 0)) s 1 0
+pub started : (rom s : List ℕ) {st : State} → st ≡ state at_reset timer_at_reset
+    → Tracing rom s (machine_of st (replicate 4096 0) rom (replicate 1024 0)) s 0
 unfolding belt_text at_start
-started rom s e f h =
-    record {
-      first = omega arith;
-      last = omega arith;
-      place = refl;
-      room = h;
-      kept = refl;
-      ram = refl;
-      belt = refl;
-      lines = rw (e, f);
-      rest = refl;
-    }
+started rom s e = record { kept = refl; lines = rw e; rest = refl }
 
-module _ {rom s : List ℕ} {m : Machine} {t : List ℕ} {step at : ℕ} (so : Tracing rom s m t step at) where
-  pub fits : step ≤ 4 → at + 14 ≤ length t
-  fits h = omega (arith, so.place, so.room, so.kept)
-
+module _ {rom s : List ℕ} {m : Machine} {t : List ℕ} {n : ℕ} (so : Tracing rom s m t n) where
   -- the text of a step more
-  module _ {n : Machine} {u : List ℕ} (h : step ≤ 4) (e : n ≡ following m) (f : u ≡ paste t at (step_line step m) 14) where
-    line : take 14 (step_line step m) ≡ step_line step m
-    line = take_all 14 (step_line step m) (omega (arith, line_length step m))
+  module _ {after : Machine} {u : List ℕ} (room : 56 ≤ length s) (h : n < 4) (e : after ≡ following m) (f : u ≡ paste t (n * 14) (step_line (n + 1) m) 14) where
+    line : take 14 (step_line (n + 1) m) ≡ step_line (n + 1) m
+    line = take_all 14 (step_line (n + 1) m) (omega (arith, line_length (n + 1) m))
 
-    head : length (take at t ++ step_line step m) ≡ at + 14
-    head = rw (sym line) (length_paste_head t at (step_line step m) 14 (omega (arith, fits h)) (omega (arith, line_length step m)))
+    head : length (take (n * 14) t ++ step_line (n + 1) m) ≡ (n + 1) * 14
+    head =
+        rw (sym line)
+        (length_paste_head t (n * 14) (step_line (n + 1) m) 14 (omega (arith, so.kept)) (omega (arith, line_length (n + 1) m)) ∙ omega arith)
 
-    whole : u ≡ (take at t ++ step_line step m) ++ drop (at + 14) t
-    whole = f ∙ ap (λ (l : List ℕ). take at t ++ l ++ drop (at + 14) t) line
+    whole : u ≡ (take (n * 14) t ++ step_line (n + 1) m) ++ drop ((n + 1) * 14) t
+    whole =
+        let next : n * 14 + 14 ≡ (n + 1) * 14 = omega arith in
+        f ∙ rw (line, next)
 
-    pub more : length u ≡ length t → length n.memory.ram ≡ length m.memory.ram → length n.memory.belt ≡ length m.memory.belt
-        → Tracing rom s n u (step + 1) (at + 14)
+    pub more : length u ≡ length t → Tracing rom s after u (n + 1)
     unfolding lines_from
-    more k ram belt =
-        let left : 5 - step ≡ suc (5 - (step + 1)) = omega (arith, so.last) in
+    more k =
+        let left : 4 - n ≡ suc (4 - (n + 1)) = omega arith in
+        let next : (n + 1) * 14 ≡ n * 14 + 14 = omega arith in
         record {
-          first = omega arith;
-          last = omega arith;
-          place = omega (arith, so.place);
-          room = so.room;
           kept = k ∙ so.kept;
-          ram = ram ∙ so.ram;
-          belt = belt ∙ so.belt;
-          lines = so.lines ∙ rw (left, whole, take_at _ _ _ head, e) (sym (append_assoc (take at t) _ _));
-          rest = rw (whole, drop_at _ _ _ head, ← drop-drop 14 at t, so.rest) (drop-drop 14 at s);
+          lines = so.lines ∙ rw (left, whole, take_at _ _ _ head, e) (sym (append_assoc (take (n * 14) t) _ _));
+          rest = rw (whole, drop_at _ _ _ head, next, ← drop-drop 14 (n * 14) t, so.rest) (drop-drop 14 (n * 14) s);
         }
 
-  pub four : 4 < step → t ≡ belt_text rom ++ drop 56 s
+  pub four : n ≡ 4 → t ≡ belt_text rom ++ drop 56 s
   unfolding lines_from
-  four h =
-      let none : 5 - step ≡ 0 = omega (arith, so.last) in
-      let end : at ≡ 56 = omega (arith, so.last, so.place) in
-      let text : belt_text rom ≡ take at t = so.lines ∙ rw none (append-nil (take at t)) in
-      sym (take-append-drop at t) ∙ rw (← text, so.rest, end)
+  four end =
+      let text : belt_text rom ≡ take 56 t = subst (λ k. belt_text rom ≡ take (k * 14) t ++ lines_from (4 - k) (k + 1) m) end so.lines ∙ append-nil (take 56 t) in
+      let rest : drop 56 t ≡ drop 56 s = subst (λ k. drop (k * 14) t ≡ drop (k * 14) s) end so.rest in
+      sym (take-append-drop 56 t) ∙ rw (← text, rest)
 
 pub text_length : (rom : List ℕ) → length (belt_text rom) ≡ 56
 unfolding belt_text lines_from

@@ -5,10 +5,9 @@ ghost use Rattle.std.specs.Prelude.{◌≡◌};
 ghost use Rattle.belt_text.specs.Text.{placed, count_of};
 ghost use Rattle.belt_trace.specs.Trace.{belt_text, answer_of};
 
-use processor::Processor;
-use timer::Timer;
+use machine::State;
 
-// Writes the text of four steps and answers its length, 56; or 0 where the buffer is shorter.
+// Writes the text of four steps and answers its length, 56; or 0 where the buffer is shorter. A buffer and a length, since there is no heap.
 pub fn trace(rom: &[u8], text: &mut [u8]) -> usize
     ensures count { result ≡ count_of (belt_text rom.now) text.old }
     ensures text { text.new ≡ placed (belt_text rom.now) text.old }
@@ -18,16 +17,10 @@ pub fn trace(rom: &[u8], text: &mut [u8]) -> usize
     }
     let mut ram = [0u8; 4096];
     let mut belt = [0u8; 1024];
-    let mut p = Processor::reset();
-    let mut timer = Timer::reset();
-    let mut step = 1;
-    let mut at = 0;
-    while step <= 4 {
-        let stepped = belt_step::advance(p, timer, &mut ram, rom, &mut belt, step, text, at);
-        p = stepped.processor;
-        timer = stepped.timer;
-        step += 1;
-        at += 14;
+    let mut state = State::reset();
+    for line in 0..4 {
+        let at = line as usize * 14;
+        state = belt_step::advance(state, &mut ram, rom, &mut belt, line + 1, text, at).state;
     }
     56
 }

@@ -1,3 +1,2 @@
 -- The laws of `bytes`.
 pub mod SameLaws
-pub mod SliceLaws

@@ -1,87 +1,45 @@
-// Byte slices compared, copied, cleared and patched; slices of words compared.
+// Byte slices compared, copied, cleared and patched.
 #![tactic(auto)]
 
-ghost use Rattle.std.specs.Prelude.{◌≡◌, length, replicate};
+ghost use Rattle.std.specs.Prelude.{◌≡◌, ◌≤◌, length, replicate};
 ghost use Rattle.byte_slices.specs.Same.{same};
 ghost use Rattle.byte_slices.specs.Bytes.{copied, fits, patch};
 
-pub fn same_bytes(a: &[u8], b: &[u8]) -> bool
+// `==`, by the test that the definitions use.
+#[tactic(auto, using(crate::proofs::SameLaws::same_pointwise))]
+pub fn same(a: &[u8], b: &[u8]) -> bool
     ensures { result ≡ same a.now b.now }
 {
-    if a.len() != b.len() {
-        return false;
-    }
-    let mut i = 0;
-    while i < a.len() {
-        if a[i] != b[i] {
-            return false;
-        }
-        i += 1;
-    }
-    true
-}
-
-pub fn same_words(v: &[u32], w: &[u32]) -> bool
-    ensures { result ≡ same v.now w.now }
-{
-    if v.len() != w.len() {
-        return false;
-    }
-    let mut i = 0;
-    while i < v.len() {
-        if v[i] != w[i] {
-            return false;
-        }
-        i += 1;
-    }
-    true
+    a == b
 }
 
 // A slice of another length is left as it is.
+#[tactic(auto, unfolding(crate::specs::Bytes::copied))]
 pub fn copy(to: &mut [u8], from: &[u8])
     ensures { to.new ≡ copied to.old from.now }
 {
-    if to.len() != from.len() {
-        return;
-    }
-    let mut i = 0;
-    while i < from.len() {
-        to[i] = from[i];
-        i += 1;
+    if to.len() == from.len() {
+        to.copy_from_slice(from);
     }
 }
 
 pub fn clear(s: &mut [u8])
     ensures { s.new ≡ replicate (length s.old) 0 }
 {
-    let mut i = 0;
-    while i < s.len() {
-        s[i] = 0;
-        i += 1;
-    }
+    s.fill(0);
 }
 
-// A word that does not fit is not written.
-pub fn patch_word(s: &mut [u8], at: u32, v: u32) -> bool
-    ensures fits { result ≡ fits 4 s.old at }
-    ensures bytes { s.new ≡ patch 4 s.old at v }
+// A number that does not fit is not written.
+#[tactic(auto, unfolding(crate::specs::Bytes::patch))]
+pub fn patch<const N: usize>(s: &mut [u8], at: u32, v: u32) -> bool
+    requires { N ≤ 4 }
+    ensures fits { result ≡ fits N s.old at }
+    ensures bytes { s.new ≡ patch N s.old at v }
 {
     let start = at as usize;
-    if s.len() < start + 4 {
+    if s.len() < start + N {
         return false;
     }
-    endian::write_word(s, start, v);
-    true
-}
-
-pub fn patch_byte(s: &mut [u8], at: u32, v: u32) -> bool
-    ensures fits { result ≡ fits 1 s.old at }
-    ensures bytes { s.new ≡ patch 1 s.old at v }
-{
-    let start = at as usize;
-    if s.len() < start + 1 {
-        return false;
-    }
-    endian::write_byte(s, start, v);
+    endian::write::<N>(s, start, v);
     true
 }

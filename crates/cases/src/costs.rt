@@ -1,69 +1,36 @@
 // Charged runs: what they cost, and which lists of charges are refused (document 02, job 3).
-ghost use Rattle.std.specs.Prelude.{◌≤◌};
-
-use crate::{outcomes, text};
-use processor::Processor;
+use crate::outcomes::{COUNT, Case, KINDS, numbers};
+use machines::Outcome;
 use std::io;
-use timer::Timer;
 
 // TRAP, and ADDI R1,R1,1 at general service; then the ROM's zeros, ADD R0,R0,R0.
 const TRAP_ADDI: u64 = 0xB800_0000_0421_0001;
 
-fn print_kind(
-    rt: &impl Print,
-    kind: bool,
-    program: u64,
-    ram: usize,
-    charges: &[u8],
-    wanted: u64,
-) -> io::Result<()>
-    requires { ram ≤ 8192 }
-{
-    let p = Processor::reset();
-    let outcome = outcomes::charged_outcome_of(
-        kind,
-        p,
-        Timer::reset(),
+// From the reset machine.
+fn steps_of(program: u64, wanted: u64) -> Case {
+    Case {
         program,
-        ram,
-        4096,
-        1024,
-        charges,
-        true,
         wanted,
-    );
-    let numbers = [
-        outcome.refusal as u64,
-        outcome.steps as u64,
-        outcome.eid as u64,
-        outcome.charge,
-    ];
-    text::print_filled(rt, b": refusal #, # steps, EID #, charge #", numbers)?;
-    if outcome.unchanged {
-        text::print(rt, b", unchanged\n")
-    } else {
-        text::print(rt, b", changed\n")
+        ..Case::regular()
     }
 }
 
-// Both kinds, each after the name of the case. In the name # stands for the steps wanted, then for the bytes of the list and of RAM.
-fn print_both(
-    rt: &impl Print,
-    name: &[u8],
-    program: u64,
-    ram: usize,
-    charges: &[u8],
-    wanted: u64,
-) -> io::Result<()>
-    requires { ram ≤ 8192 }
-{
-    let numbers = [wanted, charges.len() as u64, ram as u64, 0];
-    text::print(rt, b"charged plain run, ")?;
-    text::print_filled(rt, name, numbers)?;
-    print_kind(rt, false, program, ram, charges, wanted)?;
-    text::print(rt, b"charged run to exception, ")?;
-    text::print_filled(rt, name, numbers)?;
-    print_kind(rt, true, program, ram, charges, wanted)?;
+fn print_outcome(rt: &impl Print, outcome: Outcome) -> io::Result<()> {
+    let (refusal, steps, eid, _, charge) = numbers(outcome.answer);
+    let state = if outcome.unchanged {
+        "unchanged"
+    } else {
+        "changed"
+    };
+    println!(rt; ": refusal {refusal}, {steps} steps, EID {eid}, charge {charge}, {state}")
+}
+
+// Both kinds, each after the name of the case.
+fn print_both(rt: &impl Print, more: &str, case: Case, charges: &[u8]) -> io::Result<()> {
+    for (kind, run) in KINDS {
+        print!(rt; "charged {run}, {} steps{more}", case.wanted)?;
+        print_outcome(rt, case.run(kind, Some(charges)))?;
+    }
     Ok(())
 }
 
@@ -77,69 +44,65 @@ fn print_sums(rt: &impl Print) -> io::Result<()> {
     list[85] = 0xD0;
     list[128] = 1;
     list[129] = 2;
-    let turns: &[u8] = b"# steps of ADDI and J";
-    let trap: &[u8] = b"# steps of TRAP, ADDI and ADD";
-    print_both(rt, turns, outcomes::COUNT, 4096, &list, 0)?;
-    print_both(rt, turns, outcomes::COUNT, 4096, &list, 1)?;
-    print_both(rt, turns, outcomes::COUNT, 4096, &list, 5)?;
-    print_both(rt, trap, TRAP_ADDI, 4096, &list, 1)?;
-    print_both(rt, trap, TRAP_ADDI, 4096, &list, 4)?;
+    for wanted in [0, 1, 5] {
+        print_both(rt, " of ADDI and J", steps_of(COUNT, wanted), &list)?;
+    }
+    for wanted in [1, 4] {
+        print_both(
+            rt,
+            " of TRAP, ADDI and ADD",
+            steps_of(TRAP_ADDI, wanted),
+            &list,
+        )?;
+    }
     Ok(())
 }
 
 fn print_extremes(rt: &impl Print) -> io::Result<()> {
     let most = [0xFFu8; 130];
     let none = [0u8; 130];
-    let mut exceptions = [0u8; 130];
+    let mut exceptions = none;
     exceptions[128] = 1;
     exceptions[129] = 2;
+    print_both(rt, " at 65535", steps_of(COUNT, 1_000_000), &most)?;
+    print_both(rt, " at 0", steps_of(COUNT, 1_000_000), &none)?;
+    print_both(rt, ", entry 64 alone", steps_of(COUNT, 1000), &exceptions)?;
     print_both(
         rt,
-        b"# steps at 65535",
-        outcomes::COUNT,
-        4096,
-        &most,
-        1_000_000,
-    )?;
-    print_both(rt, b"# steps at 0", outcomes::COUNT, 4096, &none, 1_000_000)?;
-    print_both(
-        rt,
-        b"# steps, entry 64 alone",
-        outcomes::COUNT,
-        4096,
+        ", entry 64 alone, a trap",
+        steps_of(TRAP_ADDI, 1000),
         &exceptions,
-        1000,
-    )?;
-    print_both(
-        rt,
-        b"# steps, entry 64 alone, a trap",
-        TRAP_ADDI,
-        4096,
-        &exceptions,
-        1000,
-    )?;
-    Ok(())
+    )
 }
 
-// 9 after 7, and after all that is asked of the machine.
+// Lists of n bytes. 9 after 7, and after all that is asked of the machine.
 fn print_refused(rt: &impl Print) -> io::Result<()> {
     let most = [0xFFu8; 131];
-    let bytes: &[u8] = b"# steps, # bytes of charges";
-    let memory: &[u8] = b"# steps, # bytes of charges, RAM # bytes";
-    print_both(rt, bytes, outcomes::COUNT, 4096, &most[..0], 1)?;
-    print_both(rt, bytes, outcomes::COUNT, 4096, &most[..129], 1)?;
-    print_both(rt, bytes, outcomes::COUNT, 4096, &most[..130], 1)?;
-    print_both(rt, bytes, outcomes::COUNT, 4096, &most, 1)?;
-    print_both(rt, bytes, outcomes::COUNT, 4096, &most, 0)?;
-    print_both(rt, bytes, outcomes::COUNT, 4096, &most, 1_000_001)?;
-    print_both(rt, bytes, outcomes::COUNT, 4096, &most[..130], 1_000_001)?;
-    print_both(rt, memory, outcomes::COUNT, 0, &most, 1)?;
-    Ok(())
+    let cases = [
+        (0, 1),
+        (129, 1),
+        (130, 1),
+        (131, 1),
+        (131, 0),
+        (131, 1_000_001),
+        (130, 1_000_001),
+    ];
+    for (n, wanted) in cases {
+        let case = steps_of(COUNT, wanted);
+        for (kind, run) in KINDS {
+            print!(rt; "charged {run}, {wanted} steps, {n} bytes of charges")?;
+            print_outcome(rt, case.run(kind, Some(&most[..n.min(131)])))?;
+        }
+    }
+    let case = Case {
+        ram: 0,
+        ..Case::regular()
+    };
+    print_both(rt, ", 131 bytes of charges, RAM 0 bytes", case, &most)
 }
 
 pub fn print_charges(rt: &impl Print) -> io::Result<()> {
     print_sums(rt)?;
     print_extremes(rt)?;
-    print_refused(rt)?;
-    Ok(())
+    print_refused(rt)
 }

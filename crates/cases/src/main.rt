@@ -11,7 +11,6 @@ mod records;
 mod slots;
 mod states;
 mod steps;
-mod text;
 mod timers;
 mod views;
 mod writes;
@@ -20,8 +19,7 @@ use std::io;
 
 fn main(rt: HostRuntime) -> io::Result<()> {
     steps::print_steps(&rt)?;
-    lengths::print_lengths(&rt, false)?;
-    lengths::print_lengths(&rt, true)?;
+    lengths::print_lengths(&rt)?;
     states::print_machines(&rt)?;
     timers::print_timers(&rt)?;
     indexes::print_indexes(&rt)?;

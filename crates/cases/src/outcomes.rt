@@ -1,11 +1,10 @@
 // A run from a machine in memory of given lengths, and what came of it.
-ghost use Rattle.std.specs.Prelude.{◌≤◌};
-
-use crate::text;
+use machine::State;
 use machines::Outcome;
 use processor::Processor;
+use refusals::{Kind, Refusal, Request};
+use run_loop::Ran;
 use std::io;
-use timer::Timer;
 
 // What RAM and belt hold before each run, and the buffer of a record before it is written.
 pub const FILL: u8 = 0x5A;
@@ -13,117 +12,94 @@ pub const FILL: u8 = 0x5A;
 // A program of two words, ADDI R1,R1,1 and J by -2: R1 counts the turns.
 pub const COUNT: u64 = 0x0421_0001_ABFF_FFFE;
 
-fn print_outcome(rt: &impl Print, outcome: Outcome) -> io::Result<()> {
-    let numbers = [
-        outcome.refusal as u64,
-        outcome.steps as u64,
-        outcome.eid as u64,
-        outcome.slot as u64,
-    ];
-    text::print_filled(rt, b": refusal #, # steps, EID #, slot #", numbers)?;
-    if outcome.unchanged {
-        text::print(rt, b", unchanged\n")
-    } else {
-        text::print_filled(rt, b", changed, R1 #\n", [outcome.register as u64, 0, 0, 0])
+// No access was made, or it faulted.
+const NO_SLOT: u32 = 33;
+
+// The kinds of a run and their names.
+pub const KINDS: [(Kind, &str); 2] = [
+    (Kind::Plain, "plain run"),
+    (Kind::ToException, "run to exception"),
+];
+
+// The machine, two words at the start of the ROM, the bytes of RAM, ROM and belt, of at most 8,192, 8,192 and 2,048, and the steps wanted.
+#[derive(Clone, Copy)]
+pub struct Case {
+    pub state: State,
+    pub program: u64,
+    pub ram: usize,
+    pub rom: usize,
+    pub belt: usize,
+    pub wanted: u64,
+}
+
+impl Case {
+    // A step of COUNT from the reset machine, in one page of RAM and of ROM.
+    pub fn regular() -> Self {
+        Self {
+            state: State::reset(),
+            program: COUNT,
+            ram: 4096,
+            rom: 4096,
+            belt: 1024,
+            wanted: 1,
+        }
+    }
+
+    pub fn run(self, kind: Kind, charges: Option<&[u8]>) -> Outcome {
+        let filled = [FILL; 8192];
+        let mut ram = [FILL; 8192];
+        let mut belt = [FILL; 2048];
+        let mut rom = [0u8; 8192];
+        rom[..8].copy_from_slice(&self.program.to_be_bytes());
+        let ram = &mut ram[..self.ram.min(8192)];
+        let rom = &rom[..self.rom.min(8192)];
+        let belt = &mut belt[..self.belt.min(2048)];
+        let ramcopy = &filled[..ram.len()];
+        let beltcopy = &filled[..belt.len()];
+        let request = Request {
+            kind,
+            wanted: self.wanted,
+            lines: 0,
+            charges,
+        };
+        machines::run(self.state, ram, rom, belt, request, ramcopy, beltcopy)
     }
 }
 
-// The run itself, with a program of two words at the start of the ROM; `charged` says whether it is charged.
-pub fn charged_outcome_of(
-    kind: bool,
-    p: Processor,
-    timer: Timer,
-    program: u64,
-    ram: usize,
-    rom: usize,
-    belt: usize,
-    charges: &[u8],
-    charged: bool,
-    wanted: u64,
-) -> Outcome
-    requires { (ram ≤ 8192) × (rom ≤ 8192) × (belt ≤ 2048) }
-{
-    let mut rambytes = [FILL; 8192];
-    let ramcopy = [FILL; 8192];
-    let mut beltbytes = [FILL; 2048];
-    let beltcopy = [FILL; 2048];
-    let mut rombytes = [0u8; 8192];
-    endian::write_word(&mut rombytes, 0, (program / 0x1_0000_0000) as u32);
-    endian::write_word(&mut rombytes, 4, (program % 0x1_0000_0000) as u32);
-    machines::run(
-        kind,
-        p,
-        timer,
-        &mut rambytes[..ram],
-        &rombytes[..rom],
-        &mut beltbytes[..belt],
-        charges,
-        charged,
-        wanted,
-        &ramcopy[..ram],
-        &beltcopy[..belt],
-    )
+// What a run answers as numbers: its refusal or 0, its steps, EID, slot and charge. A refused run makes no step.
+pub fn numbers(answer: Result<Ran, Refusal>) -> (u32, u32, u32, u32, u64) {
+    match answer {
+        Ok(ran) => (0, ran.steps, ran.eid, ran.slot, ran.charge),
+        Err(refusal) => (refusal.into(), 0, Processor::NO_EXCEPTION, NO_SLOT, 0),
+    }
 }
 
-pub fn outcome_of(
-    kind: bool,
-    p: Processor,
-    timer: Timer,
-    program: u64,
-    ram: usize,
-    rom: usize,
-    belt: usize,
-    wanted: u64,
-) -> Outcome
-    requires { (ram ≤ 8192) × (rom ≤ 8192) × (belt ≤ 2048) }
-{
-    charged_outcome_of(kind, p, timer, program, ram, rom, belt, b"", false, wanted)
+// The rest of a case's line, after its name.
+pub fn print_outcome(rt: &impl Print, outcome: Outcome) -> io::Result<()> {
+    let (refusal, steps, eid, slot, _) = numbers(outcome.answer);
+    let register = outcome.state.processor.registers[1];
+    print!(rt; ": refusal {refusal}, {steps} steps, EID {eid}, slot {slot}")?;
+    if outcome.unchanged {
+        println!(rt; ", unchanged")
+    } else {
+        println!(rt; ", changed, R1 {register}")
+    }
 }
 
-pub fn print_run(
-    rt: &impl Print,
-    kind: bool,
-    p: Processor,
-    timer: Timer,
-    program: u64,
-    ram: usize,
-    rom: usize,
-    belt: usize,
-    wanted: u64,
-) -> io::Result<()>
-    requires { (ram ≤ 8192) × (rom ≤ 8192) × (belt ≤ 2048) }
-{
-    print_outcome(
-        rt,
-        outcome_of(kind, p, timer, program, ram, rom, belt, wanted),
-    )
+// Both kinds of a run, each after the name of the case.
+pub fn print_runs(rt: &impl Print, name: &str, case: Case) -> io::Result<()> {
+    for (kind, run) in KINDS {
+        print!(rt; "{run}, {name}")?;
+        print_outcome(rt, case.run(kind, None))?;
+    }
+    Ok(())
 }
 
-// Both kinds of a run, each after the name of the case. In the name # stands for the steps wanted, then for the timer's numbers.
-pub fn print_runs(
-    rt: &impl Print,
-    name: &[u8],
-    p: Processor,
-    timer: Timer,
-    program: u64,
-    ram: usize,
-    rom: usize,
-    belt: usize,
-    wanted: u64,
-) -> io::Result<()>
-    requires { (ram ≤ 8192) × (rom ≤ 8192) × (belt ≤ 2048) }
-{
-    let numbers = [
-        wanted,
-        timer.divisor as u64,
-        timer.counter as u64,
-        timer.control as u64,
-    ];
-    text::print(rt, b"plain run, ")?;
-    text::print_filled(rt, name, numbers)?;
-    print_run(rt, false, p, timer, program, ram, rom, belt, wanted)?;
-    text::print(rt, b"run to exception, ")?;
-    text::print_filled(rt, name, numbers)?;
-    print_run(rt, true, p, timer, program, ram, rom, belt, wanted)?;
+// The same, where the name begins with the steps wanted.
+pub fn print_steps(rt: &impl Print, more: &str, case: Case) -> io::Result<()> {
+    for (kind, run) in KINDS {
+        print!(rt; "{run}, {} steps{more}", case.wanted)?;
+        print_outcome(rt, case.run(kind, None))?;
+    }
     Ok(())
 }

@@ -1,11 +1,11 @@
 -- No entry of a list costs more than the largest, and none of a list of bytes more than 65,535.
 use mathlib.Core.Path.{◌≡◌}
 use mathlib.Core.List.{List}
-use Prim.Native.Nat.{ℕ, zero, suc, ◌*◌, ◌+◌, ◌≤◌, ◌<◌}
+use Prim.Native.Nat.{ℕ, zero, suc, ◌*◌, ◌≤◌, ◌<◌}
 use native.Mathlib.Omega.{arith}
 use lib.ListN.{get_or}
 use Rattle.words.proofs.Cases.{below_or_not}
-use Rattle.endian.proofs.Widths.{half_read}
+use Rattle.endian.proofs.Widths.{read_lt}
 use Rattle.charges.specs.Charges.{charge_at, largest, Charging, Uncharged, ChargedBy, charge_of, most_charged}
 
 within : (n : ℕ) (s : List ℕ) (i : ℕ) → i < n → charge_at s i ≤ largest n s
@@ -23,4 +23,4 @@ pub sixteen_bits : (s : List ℕ) → ((j : ℕ) → get_or s j 0 < 256) → (n 
 unfolding largest charge_at
 sixteen_bits s bytes zero = omega arith
 sixteen_bits s bytes (suc n) =
-    omega (arith, sixteen_bits s bytes n, half_read s (n * 2), bytes (n * 2), bytes (n * 2 + 1))
+    omega (arith, sixteen_bits s bytes n, read_lt 2 s (n * 2) bytes)

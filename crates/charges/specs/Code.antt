@@ -1,11 +1,14 @@
--- Helpers of the code's contracts: the code has a list of charges, and whether a run is charged by it. No definition names them.
-use Rattle.std.specs.Prelude.{◌≡◌, Bool, true, false, List, ℕ, length}
+-- Helpers of the code's contracts: the code has a list of charges, or none. No definition names them.
+use Rattle.std.specs.Prelude.{◌≡◌, List, ℕ, length, Option, Some, None}
+use Rattle.std.specs.Borrow.{Bor}
 use Rattle.charges.specs.Charges.{charges_length, Charging, Uncharged, ChargedBy}
 
-abbrev pub charging_by : Bool → List ℕ → Charging
-charging_by false s = Uncharged
-charging_by true s = ChargedBy s
+-- what a run is charged by
+abbrev pub charging_of : Option (Bor (List ℕ)) → Charging
+charging_of None = Uncharged
+charging_of (Some s) = ChargedBy s.now
 
 -- the list of a charged run has been found to be whole
-abbrev pub Whole : Bool → List ℕ → Type 0
-Whole charged s = charged ≡ true → length s ≡ charges_length
+abbrev pub IsWhole : Option (Bor (List ℕ)) → Type 0
+IsWhole None = Unit {0}
+IsWhole (Some s) = length s.now ≡ charges_length

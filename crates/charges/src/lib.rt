@@ -3,7 +3,7 @@
 
 ghost use Rattle.std.specs.Prelude.{◌≡◌, ◌+◌, ◌^◌, ◌≤◌, ◌<◌, length};
 ghost use Rattle.charges.specs.Charges.{charges_length, charge_at, charge_of};
-ghost use Rattle.charges.specs.Code.{charging_by, Whole};
+ghost use Rattle.charges.specs.Code.{charging_of, IsWhole};
 
 // The bytes of a list of charges.
 pub const LENGTH: usize = 130;
@@ -17,18 +17,16 @@ fn charge_at(charges: &[u8], i: u32) -> u64
     ensures { (result ≡ charge_at charges.now i) × (result < 65536) }
 {
     let at = (i * 2) as usize;
-    let high = endian::byte_at(charges, at);
-    let low = endian::byte_at(charges, at + 1);
-    (high * 0x100 + low) as u64
+    u64::from(endian::read::<2>(charges, at))
 }
 
 // What a run has cost with one step more, by that step's entry.
-pub fn added(total: u64, charges: &[u8], charged: bool, entry: u32) -> u64
-    requires { Whole charged charges.now × (entry ≤ 64) × (total < 2 ^ 63) }
-    ensures { (result ≡ total + charge_of (charging_by charged charges.now) entry) × (result ≤ total + 65535) }
+pub fn added(total: u64, charges: Option<&[u8]>, entry: u32) -> u64
+    requires { IsWhole charges × (entry ≤ 64) × (total < 2 ^ 63) }
+    ensures { (result ≡ total + charge_of (charging_of charges.entry) entry) × (result ≤ total + 65535) }
 {
-    if charged {
-        return total + charge_at(charges, entry);
+    match charges {
+        Some(list) => total + charge_at(list, entry),
+        None => total,
     }
-    total
 }

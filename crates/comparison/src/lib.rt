@@ -4,7 +4,7 @@
 ghost use Rattle.std.specs.Prelude.{◌≡◌};
 ghost use Rattle.comparison.specs.Comparison.{unsigned_holds, signed_holds};
 
-#[derive(Clone, Copy)]
+#[derive(Clone, Copy, Debug, PartialEq, Eq)]
 pub enum Order {
     Equal,
     NotEqual,
@@ -14,6 +14,7 @@ pub enum Order {
     Greater,
 }
 
+#[tactic(auto, unfolding(crate::specs::Comparison::unsigned_holds))]
 pub fn unsigned_holds(order: Order, x: u32, y: u32) -> bool
     ensures { result ≡ unsigned_holds order x y }
 {
@@ -27,7 +28,8 @@ pub fn unsigned_holds(order: Order, x: u32, y: u32) -> bool
     }
 }
 
-// Adding 2^31 modulo 2^32 turns the signed order into the unsigned one.
+// Adding 2^31 modulo 2^32 turns the signed order into the unsigned one; by i32 the match would stand twice.
+#[tactic(auto, using(crate::proofs::Orders::signed_by_unsigned))]
 pub fn signed_holds(order: Order, x: u32, y: u32) -> bool
     ensures { result ≡ signed_holds order x y }
 {

@@ -1,77 +1,88 @@
 // The control flow instructions (manual, 3.4).
 #![tactic(auto)]
 
-ghost use Rattle.std.specs.Prelude.{◌≡◌, get_or};
-ghost use Rattle.control.specs.Branches.{target, branch};
-ghost use Rattle.instructions.specs.Operands.{operands, illegal};
+ghost use Rattle.std.specs.Prelude.{◌≡◌, ◌≤◌, ◌<◌, get_or};
+ghost use Rattle.control.specs.Branches.{target, jump_to, branch};
+ghost use Rattle.instructions.specs.Operands.{illegal};
 ghost use Rattle.control.specs.Control.{controls};
-ghost use Rattle.instructions.specs.Code.{action_of};
+ghost use Rattle.instructions.specs.Action.{Write};
+ghost use Rattle.tlb.specs.Lookup.{no_slot};
+ghost use Rattle.instructions.specs.Code.{action_of, operands_of};
 
 use comparison::Order;
-use instructions::Coded;
-use processor::Processor;
+use instructions::{Coded, Operands};
 use words::extension;
 
-fn target_16(word: u32, next: u32) -> u32
-    ensures { result ≡ target 16 word next }
+// The target of the offset in the low `WIDTH` bits of the instruction word.
+#[tactic(auto, using(crate::proofs::Targets::target_by_shift))]
+pub fn target<const WIDTH: u32>(o: Operands) -> u32
+    requires sign { 1 ≤ WIDTH }
+    requires below { WIDTH < 32 }
+    ensures { result ≡ target WIDTH o.word o.next }
 {
-    sums::add(next, shifts::shift_left(extension::sign_extend_16(word), 2))
+    sums::add(
+        o.next,
+        shifts::shift_left(extension::sign_extend::<WIDTH>(o.word), 2),
+    )
 }
 
-pub fn target_26(word: u32, next: u32) -> u32
-    ensures { result ≡ target 26 word next }
+// A jump that links nothing: a write to register 0 has no effect.
+fn jump_to(pc: u32) -> Coded
+    ensures { action_of result ≡ jump_to pc }
 {
-    sums::add(next, shifts::shift_left(extension::sign_extend_26(word), 2))
+    Coded::Write {
+        register: 0,
+        value: 0,
+        next: pc,
+        slot: tlb::NO_SLOT,
+    }
 }
 
-pub fn branch(holds: bool, word: u32, next: u32) -> Coded
-    ensures { action_of result ≡ branch holds word next }
+// A jump that links.
+fn link_to(pc: u32, o: Operands) -> Coded
+    ensures { action_of result ≡ Write 31 o.next pc no_slot }
+{
+    Coded::Write {
+        register: 31,
+        value: o.next,
+        next: pc,
+        slot: tlb::NO_SLOT,
+    }
+}
+
+#[tactic(auto, unfolding(crate::specs::Branches::branch))]
+pub fn branch(holds: bool, o: Operands) -> Coded
+    ensures { action_of result ≡ branch holds o.word o.next }
 {
     if holds {
-        return Coded::Write(0, 0, target_16(word, next), tlb::NO_SLOT);
+        return jump_to(target::<16>(o));
     }
-    Coded::Write(0, 0, next, tlb::NO_SLOT)
+    jump_to(o.next)
 }
 
 // Opcodes 20 to 2D, counted from 0.
-pub fn flow(kind: u32, x: u32, y: u32, word: u32, next: u32) -> Coded
-    ensures { action_of result ≡ get_or controls kind illegal (operands x y word next) }
+#[tactic(auto, unfolding(crate::specs::Control::controls))]
+pub fn flow(kind: u32, o: Operands) -> Coded
+    ensures { action_of result ≡ get_or controls kind illegal (operands_of o) }
 {
     match kind {
-        0 => branch(comparison::unsigned_holds(Order::Equal, x, y), word, next),
-        1 => branch(
-            comparison::unsigned_holds(Order::NotEqual, x, y),
-            word,
-            next,
-        ),
-        2 => branch(
-            comparison::signed_holds(Order::LessOrEqual, x, y),
-            word,
-            next,
-        ),
-        3 => branch(
-            comparison::unsigned_holds(Order::LessOrEqual, x, y),
-            word,
-            next,
-        ),
-        4 => branch(comparison::signed_holds(Order::Less, x, y), word, next),
-        5 => branch(comparison::unsigned_holds(Order::Less, x, y), word, next),
-        6 => branch(
-            comparison::signed_holds(Order::GreaterOrEqual, x, y),
-            word,
-            next,
-        ),
+        0 => branch(comparison::unsigned_holds(Order::Equal, o.x, o.y), o),
+        1 => branch(comparison::unsigned_holds(Order::NotEqual, o.x, o.y), o),
+        2 => branch(comparison::signed_holds(Order::LessOrEqual, o.x, o.y), o),
+        3 => branch(comparison::unsigned_holds(Order::LessOrEqual, o.x, o.y), o),
+        4 => branch(comparison::signed_holds(Order::Less, o.x, o.y), o),
+        5 => branch(comparison::unsigned_holds(Order::Less, o.x, o.y), o),
+        6 => branch(comparison::signed_holds(Order::GreaterOrEqual, o.x, o.y), o),
         7 => branch(
-            comparison::unsigned_holds(Order::GreaterOrEqual, x, y),
-            word,
-            next,
+            comparison::unsigned_holds(Order::GreaterOrEqual, o.x, o.y),
+            o,
         ),
-        8 => branch(comparison::signed_holds(Order::Greater, x, y), word, next),
-        9 => branch(comparison::unsigned_holds(Order::Greater, x, y), word, next),
-        10 => Coded::Write(0, 0, target_26(word, next), tlb::NO_SLOT),
-        11 => Coded::Write(0, 0, x, tlb::NO_SLOT),
-        12 => Coded::Write(31, next, target_26(word, next), tlb::NO_SLOT),
-        13 => Coded::Write(31, next, x, tlb::NO_SLOT),
-        _ => Coded::Exception(Processor::ILLEGAL_INSTRUCTION, 0, 0, 0),
+        8 => branch(comparison::signed_holds(Order::Greater, o.x, o.y), o),
+        9 => branch(comparison::unsigned_holds(Order::Greater, o.x, o.y), o),
+        10 => jump_to(target::<26>(o)),
+        11 => jump_to(o.x),
+        12 => link_to(target::<26>(o), o),
+        13 => link_to(o.x, o),
+        _ => o.illegal(),
     }
 }

@@ -11,14 +11,13 @@ use Rattle.words.specs.Lists.{Every}
 use Rattle.words.proofs.Cases.{chosen, below_or_not}
 use Rattle.words.proofs.Every.{◌&◌, every_at, every_so}
 use Rattle.memory.specs.Access.{load_of, store_answer}
-use Rattle.memory.specs.declared.Loaded.{Loaded}
-use Rattle.memory.specs.declared.Loaded.TheVariants as loaded
-use Rattle.memory.specs.declared.Stored.{Stored}
-use Rattle.memory.specs.declared.Stored.TheVariants as stored
+use Rattle.memory.specs.Loaded.{Loaded}
+use Rattle.memory.specs.Loaded as loaded
+use Rattle.memory.specs.Stored.{Stored}
+use Rattle.memory.specs.Stored as stored
 use Rattle.status.specs.Psw.{user_mode}
 use Rattle.tlb.specs.Lookup.{no_slot}
-use Rattle.translation.specs.Translation.{translated}
-use Rattle.translation.specs.declared.Translation.TheVariants.{Physical}
+use Rattle.translation.specs.Translation.{translated, Physical}
 use Rattle.translation.proofs.Resolved.{walk}
 use Rattle.instructions.specs.Operands.{Surroundings, Operands, Simple, simple, illegal, opcode_of, field_y}
 use Rattle.instructions.specs.Action.{Action, Write, Store, System, Exception, SystemInstruction, Rfx, Mvfs, Mvts, Tbs, Tbwr, Tbri, Tbwi}
@@ -26,8 +25,7 @@ use Rattle.compute.specs.Compute.{computations}
 use Rattle.compute.proofs.Results.{Computed, every_computes}
 use Rattle.control.specs.Control.{controls}
 use Rattle.control.specs.Branches.{branch}
-use Rattle.access.specs.declared.Read.{Read}
-use Rattle.access.specs.declared.Read.TheVariants.{Value, Fault}
+use Rattle.access.specs.Read.{Read, Value, Fault}
 use Rattle.access.specs.Reads.{answered, read_from}
 use Rattle.access.specs.Writes.{settled, store_to}
 use Rattle.transfer.specs.Transfer.{address_of, landed, load, store, transfers}

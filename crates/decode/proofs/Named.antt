@@ -5,19 +5,17 @@ use native.Mathlib.Omega.{arith}
 use Rattle.timer.specs.declared.Timer.{Timer}
 use Rattle.memory.specs.Map.{Memory}
 use Rattle.memory.specs.Access.{load_of, store_answer}
-use Rattle.memory.specs.declared.Loaded.{Loaded}
-use Rattle.memory.specs.declared.Loaded.TheVariants as loaded
-use Rattle.memory.specs.declared.Stored.{Stored}
-use Rattle.memory.specs.declared.Stored.TheVariants as stored
-use Rattle.translation.specs.Translation.{translated}
-use Rattle.translation.specs.declared.Translation.{Translation}
+use Rattle.memory.specs.Loaded.{Loaded}
+use Rattle.memory.specs.Loaded as loaded
+use Rattle.memory.specs.Stored.{Stored}
+use Rattle.memory.specs.Stored as stored
+use Rattle.translation.specs.Translation.{translated, Translation}
 use Rattle.translation.proofs.Resolved.{walk}
 use Rattle.instructions.specs.Operands.{Surroundings}
 use Rattle.access.specs.Reads.{answered, read_through}
 use Rattle.access.specs.Writes.{settled, store_through, store_to}
 use Rattle.instructions.specs.Action.{Action, Write, Store, System, Exception}
-use Rattle.access.specs.declared.Read.{Read}
-use Rattle.access.specs.declared.Read.TheVariants.{Value, Fault}
+use Rattle.access.specs.Read.{Read, Value, Fault}
 
 -- a fault that is named has a number up to 25
 abbrev pub Named : Action → Type 0

@@ -10,12 +10,10 @@ use Rattle.words.proofs.Cases.{chosen, case}
 use Rattle.words.proofs.Every.{◌&◌, every_so}
 use Rattle.sums.proofs.Sizes.{sum_lt, zero_16_lt, zero_8_lt, sign_16_lt, sign_8_lt}
 use Rattle.memory.specs.Access.{store_answer, access_width}
-use Rattle.memory.specs.declared.Stored.{Stored}
-use Rattle.memory.specs.declared.Stored.TheVariants as stored
+use Rattle.memory.specs.Stored.{Stored}
+use Rattle.memory.specs.Stored as stored
 use Rattle.status.specs.Psw.{user_mode}
-use Rattle.translation.specs.Translation.{translated}
-use Rattle.translation.specs.declared.Translation.{Translation}
-use Rattle.translation.specs.declared.Translation.TheVariants.{Physical}
+use Rattle.translation.specs.Translation.{translated, Translation, Physical}
 use Rattle.translation.proofs.Resolved.{walk}
 use Rattle.instructions.specs.Operands.{Surroundings, Operands, simple, field_y}
 use Rattle.instructions.specs.Action.{Action, Write, Store, System, Exception, SystemInstruction, Rfx, Mvfs, Mvts, Tbs, Tbwr, Tbri, Tbwi}
@@ -24,8 +22,7 @@ use Rattle.compute.specs.Compute.{computations}
 use Rattle.compute.proofs.Results.{Computed, every_computes}
 use Rattle.control.specs.Control.{controls}
 use Rattle.control.specs.Branches.{target, branch}
-use Rattle.access.specs.declared.Read.{Read}
-use Rattle.access.specs.declared.Read.TheVariants.{Value, Fault}
+use Rattle.access.specs.Read.{Read, Value, Fault}
 use Rattle.access.specs.Reads.{read_from}
 use Rattle.access.specs.Writes.{settled, store_through, store_to}
 use Rattle.transfer.specs.Transfer.{address_of, landed, load, store, transfers}

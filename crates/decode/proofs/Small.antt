@@ -5,20 +5,18 @@ use Rattle.timer.specs.Timer.{TimerWords}
 use Rattle.timer.specs.declared.Timer.{Timer}
 use Rattle.memory.specs.Map.{Memory}
 use Rattle.memory.specs.Access.{load_of, store_answer}
-use Rattle.memory.specs.declared.Loaded.{Loaded}
-use Rattle.memory.specs.declared.Loaded.TheVariants as loaded
-use Rattle.memory.specs.declared.Stored.{Stored}
-use Rattle.memory.specs.declared.Stored.TheVariants as stored
+use Rattle.memory.specs.Loaded.{Loaded}
+use Rattle.memory.specs.Loaded as loaded
+use Rattle.memory.specs.Stored.{Stored}
+use Rattle.memory.specs.Stored as stored
 use Rattle.memory.proofs.Bytewise.{Bytewise, Fits, load_fits}
-use Rattle.translation.specs.Translation.{translated}
-use Rattle.translation.specs.declared.Translation.{Translation}
+use Rattle.translation.specs.Translation.{translated, Translation}
 use Rattle.translation.proofs.Resolved.{walk}
 use Rattle.instructions.specs.Operands.{Surroundings}
 use Rattle.access.specs.Reads.{answered, read_through, read_from}
 use Rattle.access.specs.Writes.{settled, store_through, store_to}
 use Rattle.instructions.specs.Action.{Action, Write, Store, System, Exception, SystemInstruction, Rfx, Mvfs, Mvts, Tbs, Tbwr, Tbri, Tbwi}
-use Rattle.access.specs.declared.Read.{Read}
-use Rattle.access.specs.declared.Read.TheVariants.{Value, Fault}
+use Rattle.access.specs.Read.{Read, Value, Fault}
 
 -- what a step takes from an action into a register is a word; a store takes bytes of its value
 abbrev pub SmallSystem : SystemInstruction → Type 0

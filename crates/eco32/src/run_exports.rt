@@ -5,6 +5,7 @@ ghost use Rattle.charges.specs.Charges.{Uncharged};
 ghost use Rattle.refusals.specs.Request.{plain, to_exception, request};
 ghost use Rattle.run_calls.specs.Runs.{called, call_of};
 
+use refusals::Kind;
 use run_calls::Answer;
 
 #[unsafe(no_mangle)]
@@ -19,7 +20,7 @@ pub extern "C" fn eco32_run(
     ensures { called machine.new (left ram.new rom.now belt.new) result.refusal result.steps result.eid result.slot 0
         ≡ call_of (request plain wanted lines Uncharged) machine.old (lent ram.old rom.now belt.old) }
 {
-    run_calls::uncharged(machine, ram, rom, belt, wanted, lines, false)
+    run_calls::uncharged(machine, ram, rom, belt, Kind::Plain, wanted, lines)
 }
 
 #[unsafe(no_mangle)]
@@ -34,5 +35,5 @@ pub extern "C" fn eco32_run_to_exception(
     ensures { called machine.new (left ram.new rom.now belt.new) result.refusal result.steps result.eid result.slot 0
         ≡ call_of (request to_exception wanted lines Uncharged) machine.old (lent ram.old rom.now belt.old) }
 {
-    run_calls::uncharged(machine, ram, rom, belt, wanted, lines, true)
+    run_calls::uncharged(machine, ram, rom, belt, Kind::ToException, wanted, lines)
 }

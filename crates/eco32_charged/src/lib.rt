@@ -8,6 +8,7 @@ ghost use Rattle.charges.specs.Charges.{ChargedBy};
 ghost use Rattle.refusals.specs.Request.{plain, to_exception, request};
 ghost use Rattle.run_calls.specs.Runs.{called, call_of};
 
+use refusals::{Kind, Request};
 use run_calls::Charged;
 
 #[unsafe(no_mangle)]
@@ -23,7 +24,13 @@ pub extern "C" fn eco32_run_charged(
     ensures { called machine.new (left ram.new rom.now belt.new) result.refusal result.steps result.eid result.slot result.charge
         ≡ call_of (request plain wanted lines (ChargedBy charges.now)) machine.old (lent ram.old rom.now belt.old) }
 {
-    run_calls::call(machine, ram, rom, belt, charges, true, wanted, lines, false)
+    let plain = Request {
+        kind: Kind::Plain,
+        wanted,
+        lines: lines as u32,
+        charges: Some(charges),
+    };
+    run_calls::call(machine, ram, rom, belt, plain).into()
 }
 
 #[unsafe(no_mangle)]
@@ -39,5 +46,11 @@ pub extern "C" fn eco32_run_to_exception_charged(
     ensures { called machine.new (left ram.new rom.now belt.new) result.refusal result.steps result.eid result.slot result.charge
         ≡ call_of (request to_exception wanted lines (ChargedBy charges.now)) machine.old (lent ram.old rom.now belt.old) }
 {
-    run_calls::call(machine, ram, rom, belt, charges, true, wanted, lines, true)
+    let to_exception = Request {
+        kind: Kind::ToException,
+        wanted,
+        lines: lines as u32,
+        charges: Some(charges),
+    };
+    run_calls::call(machine, ram, rom, belt, to_exception).into()
 }

@@ -2,11 +2,13 @@
 use mathlib.Core.Path.{◌≡◌, refl, ap, sym, ◌∙◌}
 use mathlib.Core.List.{List}
 use mathlib.Core.Bool.{Bool, true, false}
-use Prim.Native.Nat.{ℕ, zero, suc, ◌+◌, ◌*◌, ◌/◌, ◌%◌, ◌^◌, ◌≤◌, ◌<◌}
+use Prim.Native.Nat.{ℕ, zero, suc, ◌+◌, ◌-◌, ◌*◌, ◌/◌, ◌%◌, ◌^◌, ◌≤◌, ◌<◌}
 use native.Mathlib.Nat.{mod-eq_of_lt, add-zero, mul_assoc, div-add-mod', mod-lt, mul-add-mod_self_right, pow-suc}
 use native.Mathlib.Omega.{arith}
-use lib.ListN.{length, get_or, set, length-set}
+use lib.ListN.{length, get_or, set, take, drop, length-set}
 use lib.Seq.{get_or-set_same, get_or-set_other, set-get_or, set_out}
+use native.Mathlib.Numerals.{add-one}
+use Rattle.std.proofs.lemmas.Grind.{common_steps}
 use lib.Dec.{eqb}
 use borrow.Author.Tests.{eqb-true, eqb-false}
 use Rattle.endian.specs.BigEndian.{read_at, write_at}
@@ -97,30 +99,51 @@ write_bytes zero s at v h j = h j
 write_bytes (suc w) s at v h j =
     write_bytes w (set s (at + w) (v % 256)) at (v / 256) (set_bytes s (at + w) (v % 256) (omega arith) h) j
 
--- the three widths of the processor
-pub byte_fits : (b : ℕ) → b < 256 → b < 4294967296
-byte_fits b h = omega arith
+-- ---- a number that is read byte by byte, over a part of the list
 
-pub byte_read : (s : List ℕ) (at : ℕ) → read_at 1 s at ≡ get_or s at 0
-unfolding read_at
-byte_read s at = rw add-zero (omega arith)
+-- the part has the number's bytes
+pub part_length : (n at : ℕ) (s : List ℕ) → at + n ≤ length s → length (take (at + n - at) (drop at s)) ≡ n
+part_length n at s h = grind (arith, common_steps)
 
-pub half_read : (s : List ℕ) (at : ℕ) → read_at 2 s at ≡ get_or s at 0 * 256 + get_or s (at + 1) 0
+-- there is room for one byte more
+pub read_room : (i : ℕ) (s : List ℕ) (at : ℕ) → ((j : ℕ) → get_or s j 0 < 256) → i < 4 → read_at i s at < 16777216
+read_room zero s at h k = omega (arith, read_lt 0 s at h)
+read_room (suc zero) s at h k = omega (arith, read_lt 1 s at h)
+read_room (suc (suc zero)) s at h k = omega (arith, read_lt 2 s at h)
+read_room (suc (suc (suc zero))) s at h k = omega (arith, read_lt 3 s at h)
+read_room (suc (suc (suc (suc i)))) s at h k = absurd (omega arith)
+
+pub read_none : (s : List ℕ) (at : ℕ) → read_at 0 s at ≡ 0
 unfolding read_at
-half_read s at = rw add-zero (omega arith)
+read_none s at = refl
+
+pub read_more : (i n at : ℕ) (s : List ℕ) → i < length (take (at + n - at) (drop at s)) → at + n ≤ length s
+    → read_at (i + 1) s at ≡ read_at i s at * 256 + get_or (take (at + n - at) (drop at s)) i 0
+unfolding read_at
+read_more i n at s h k =
+    let part : get_or (take (at + n - at) (drop at s)) i 0 ≡ get_or s (at + i) 0 = grind (arith, common_steps) in
+    rw (add-one, part) refl
+
+-- ---- a number that is written, the last byte first
+
+pub write_more : (i : ℕ) (s : List ℕ) (at v : ℕ) → 0 < i → write_at i s at v ≡ write_at (i - 1) (set s (at + (i - 1)) (v % 256)) at (v / 256)
+unfolding write_at
+write_more zero s at v h = absurd (omega arith)
+write_more (suc i) s at v h =
+    let under : suc i - 1 ≡ i = omega arith in
+    rw under refl
+
+pub write_none : (i : ℕ) (s : List ℕ) (at v : ℕ) → i ≤ 0 → write_at i s at v ≡ s
+unfolding write_at
+write_none zero s at v h = refl
+write_none (suc i) s at v h = absurd (omega arith)
+
+-- ---- a word, byte by byte
 
 pub word_read : (s : List ℕ) (at : ℕ)
     → read_at 4 s at ≡ get_or s at 0 * 16777216 + get_or s (at + 1) 0 * 65536 + get_or s (at + 2) 0 * 256 + get_or s (at + 3) 0
 unfolding read_at
 word_read s at = rw add-zero (omega arith)
-
-pub byte_write : (s : List ℕ) (at v : ℕ) → write_at 1 s at v ≡ set s at (v % 256)
-unfolding write_at
-byte_write s at v = rw add-zero
-
-pub half_write : (s : List ℕ) (at v : ℕ) → write_at 2 s at v ≡ set (set s (at + 1) (v % 256)) at (v / 256 % 256)
-unfolding write_at
-half_write s at v = rw add-zero
 
 pub word_write : (s : List ℕ) (at v : ℕ)
     → write_at 4 s at v

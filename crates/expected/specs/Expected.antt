@@ -2,7 +2,6 @@
 use Rattle.std.specs.Prelude.{Bool, false, cond, List, ℕ, ◌/◌, ◌%◌, eqb, length, replicate}
 use Rattle.words.specs.Logic.{both}
 use Rattle.memory.specs.Map.{Memory, memory}
-use Rattle.memory.specs.Lent.{Lent}
 use Rattle.timer.specs.Timer.{timer_at_reset}
 use Rattle.timer.specs.declared.Timer.{Timer}
 use Rattle.processor.specs.declared.Processor.{Processor}
@@ -20,13 +19,6 @@ pub record Expected : Type 0 where
 
 abbrev pub expected : List ℕ → List ℕ → List ℕ → List ℕ → Expected
 expected bytes ram rom belt = record { bytes = bytes; memory = memory ram rom belt }
-
--- in slices lent to a call, at its entry and at its exit
-abbrev pub expected_lent : Lent → Lent → Lent → Lent → Expected
-expected_lent bytes ram rom belt = expected bytes ram rom belt
-
-abbrev pub expected_left : Lent → Lent → Lent → Lent → Expected
-expected_left bytes ram rom belt = expected bytes ram rom belt
 
 -- ---- agreement
 

@@ -1,2 +1,3 @@
--- The definitions of `expected`.
+-- The definitions of `expected`, in the order to read them; Code has a helper of the code's contracts.
 pub mod Expected
+pub mod Code

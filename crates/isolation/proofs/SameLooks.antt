@@ -16,15 +16,13 @@ use Rattle.look.specs.Interrupt.{channel}
 use Rattle.tlb.specs.Lookup.{page_of}
 use Rattle.translation.specs.Translation.{frame_of, translated}
 use Rattle.processor.specs.declared.Processor.{Processor}
-use Rattle.translation.specs.declared.Translation.{Translation}
-use Rattle.translation.specs.declared.Translation.TheVariants.{Physical, TlbMiss, TlbWrite, TlbInvalid, IllegalAddress, PrivilegedAddress}
+use Rattle.translation.specs.Translation.{Translation, Physical, TlbMiss, TlbWrite, TlbInvalid, IllegalAddress, PrivilegedAddress}
 use Rattle.translation.proofs.Granted.{Granted, user_granted}
 use Rattle.instructions.specs.Operands.{Surroundings, surroundings}
 use Rattle.access.specs.Reads.{answered, read_through, read_from}
 use Rattle.access.specs.Writes.{settled, store_through, store_to}
 use Rattle.instructions.specs.Action.{Exception}
-use Rattle.access.specs.declared.Read.{Read}
-use Rattle.access.specs.declared.Read.TheVariants.{Value, Fault}
+use Rattle.access.specs.Read.{Read, Value, Fault}
 use Rattle.look.specs.Look.{operands_of, decoded, look_from, no_opcode, opcode_read, opcode_from}
 use Rattle.step.specs.Step.{look, opcode_fetched}
 use Rattle.isolation.specs.Frames.{frame_at, low_word, ValidUserPage, Reached, ReachedWritable, SameIn}

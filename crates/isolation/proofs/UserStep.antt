@@ -25,8 +25,7 @@ use Rattle.status.proofs.PswLaws.{pushed_kernel}
 use Rattle.translation.proofs.Granted.{user_granted}
 use Rattle.access.specs.Reads.{read_from}
 use Rattle.instructions.specs.Action.{Action, Write, Store, System, Exception}
-use Rattle.access.specs.declared.Read.{Read}
-use Rattle.access.specs.declared.Read.TheVariants.{Value, Fault}
+use Rattle.access.specs.Read.{Read, Value, Fault}
 use Rattle.machine.specs.Machine.{Machine}
 use Rattle.look.specs.Look.{operands_of, decoded, look_from}
 use Rattle.actions.specs.Actions.{processor_after}

@@ -5,8 +5,10 @@ ghost use Rattle.std.specs.Prelude.{◌≡◌, ◌+◌, ◌≤◌, length};
 ghost use Rattle.memory.specs.Lent.{lent, left};
 ghost use Rattle.endian.specs.BigEndian.{read_at, write_at};
 ghost use Rattle.memory.specs.Access.{load_of, store_answer, access_width, memory_after, timer_after};
+ghost use Rattle.memory.specs.Code.{loaded_of, stored_of};
+ghost use Rattle.std.specs.Option.{unwrap_or};
 
-use memory::{Loaded, Place, Stored};
+use memory::Place;
 use timer::Timer;
 
 fn bytes_of(width: u32) -> u32
@@ -25,22 +27,30 @@ fn read(s: &[u8], at: usize, width: u32) -> u32
     ensures { result ≡ read_at (access_width width) s.now at }
 {
     match width {
-        1 => endian::read_byte(s, at),
-        2 => endian::read_half(s, at),
-        _ => endian::read_word(s, at),
+        1 => endian::read::<1>(s, at),
+        2 => endian::read::<2>(s, at),
+        _ => endian::read::<4>(s, at),
     }
 }
 
-pub fn load(timer: Timer, ram: &[u8], rom: &[u8], belt: &[u8], width: u32, address: u32) -> Loaded
-    ensures { result ≡ load_of (access_width width) timer (lent ram.now rom.now belt.now) address }
+// The number at an address, or none where nothing answers.
+pub fn load(
+    timer: Timer,
+    ram: &[u8],
+    rom: &[u8],
+    belt: &[u8],
+    width: u32,
+    address: u32,
+) -> Option<u32>
+    ensures { loaded_of result ≡ load_of (access_width width) timer (lent ram.now rom.now belt.now) address }
 {
     let place = memory::place_of(bytes_of(width), ram.len(), rom.len(), belt.len(), address);
     match place {
-        Place::Ram(at) => Loaded::Value(read(ram, at as usize, width)),
-        Place::Rom(at) => Loaded::Value(read(rom, at as usize, width)),
-        Place::Belt(at) => Loaded::Value(read(belt, at as usize, width)),
-        Place::Timer(at) => Loaded::Value(timer.read(at)),
-        Place::Nothing => Loaded::Timeout,
+        Place::Ram(at) => Some(read(ram, at as usize, width)),
+        Place::Rom(at) => Some(read(rom, at as usize, width)),
+        Place::Belt(at) => Some(read(belt, at as usize, width)),
+        Place::Timer(at) => Some(timer.read(at)),
+        Place::Nothing => None,
     }
 }
 
@@ -50,19 +60,13 @@ fn write(s: &mut [u8], at: usize, width: u32, value: u32)
     ensures { s.new ≡ write_at (access_width width) s.old at value }
 {
     match width {
-        1 => endian::write_byte(s, at, value),
-        2 => endian::write_half(s, at, value),
-        _ => endian::write_word(s, at, value),
+        1 => endian::write::<1>(s, at, value),
+        2 => endian::write::<2>(s, at, value),
+        _ => endian::write::<4>(s, at, value),
     }
 }
 
-// Whether something answered a store, and the timer after it.
-#[derive(Clone, Copy)]
-pub struct Settled {
-    pub answer: Stored,
-    pub timer: Timer,
-}
-
+// The timer after a store, or none where nothing answers: nothing has changed then.
 pub fn store(
     timer: Timer,
     ram: &mut [u8],
@@ -71,38 +75,27 @@ pub fn store(
     width: u32,
     address: u32,
     value: u32,
-) -> Settled
-    ensures answer { result.answer ≡ store_answer (access_width width) (lent ram.old rom.now belt.old) address }
-    ensures timer { result.timer ≡ timer_after (access_width width) timer (lent ram.old rom.now belt.old) address value }
+) -> Option<Timer>
+    ensures answer { stored_of result ≡ store_answer (access_width width) (lent ram.old rom.now belt.old) address }
+    ensures timer { unwrap_or result timer ≡ timer_after (access_width width) timer (lent ram.old rom.now belt.old) address value }
     ensures contents { left ram.new rom.now belt.new ≡ memory_after (access_width width) (lent ram.old rom.now belt.old) address value }
 {
     let place = memory::place_of(bytes_of(width), ram.len(), rom.len(), belt.len(), address);
     match place {
         Place::Ram(at) => {
             write(ram, at as usize, width, value);
-            Settled {
-                answer: Stored::Done,
-                timer: timer,
-            }
+            Some(timer)
         }
-        Place::Rom(_) => Settled {
-            answer: Stored::Done,
-            timer: timer,
-        },
+        Place::Rom(_) => Some(timer),
         Place::Belt(at) => {
             write(belt, at as usize, width, value);
-            Settled {
-                answer: Stored::Done,
-                timer: timer,
-            }
+            Some(timer)
         }
-        Place::Timer(at) => Settled {
-            answer: Stored::Done,
-            timer: timer.write(at, value),
-        },
-        Place::Nothing => Settled {
-            answer: Stored::Timeout,
-            timer: timer,
-        },
+        Place::Timer(at) => {
+            let mut written = timer;
+            written.write(at, value);
+            Some(written)
+        }
+        Place::Nothing => None,
     }
 }

@@ -8,8 +8,7 @@ use Rattle.instructions.specs.Operands.{Surroundings, operands}
 use Rattle.decode.specs.Table.{executed}
 use Rattle.access.specs.Reads.{read_from}
 use Rattle.instructions.specs.Action.{Action, Exception}
-use Rattle.access.specs.declared.Read.{Read}
-use Rattle.access.specs.declared.Read.TheVariants.{Value, Fault}
+use Rattle.access.specs.Read.{Read, Value, Fault}
 use Rattle.access.proofs.Forgotten.{without_slot}
 use Rattle.look.specs.Look.{decoded, look_from, no_opcode, opcode_read, opcode_from}
 

@@ -6,8 +6,7 @@ use Rattle.instructions.specs.Operands.{Surroundings, Operands, operands_in, opc
 use Rattle.access.specs.Reads.{read_from}
 use Rattle.decode.specs.Table.{executed}
 use Rattle.instructions.specs.Action.{Action, Exception}
-use Rattle.access.specs.declared.Read.{Read}
-use Rattle.access.specs.declared.Read.TheVariants.{Value, Fault}
+use Rattle.access.specs.Read.{Read, Value, Fault}
 
 -- the instruction word's operands in the register file
 abbrev pub operands_of : List ℕ → ℕ → ℕ → Operands

@@ -4,32 +4,31 @@
 ghost use Rattle.std.specs.Prelude.{◌≡◌, ◌≤◌};
 ghost use Rattle.look.specs.Interrupt.{lowest, channel};
 ghost use Rattle.tlb.specs.Found.{Serves};
-ghost use Rattle.instructions.specs.Operands.{around};
 ghost use Rattle.look.specs.Look.{look_from, opcode_from};
 ghost use Rattle.instructions.specs.Code.{action_of};
+ghost use Rattle.access.specs.Code.{surroundings_of};
 
-use access::Read;
+use access::Surroundings;
 use instructions::Coded;
 use processor::{Processor, Words};
-use timer::Timer;
 
 // The number of the lowest bit that is set of 16, or 32.
+#[tactic(auto, using(crate::proofs::ChannelLoop::lowest_more, crate::proofs::ChannelLoop::lowest_stop, crate::proofs::ChannelLoop::lowest_end))]
 fn lowest_ready(ready: u32) -> u32
     ensures { result ≡ lowest 16 0 ready }
 {
     let mut rest = ready;
-    let mut i: u32 = 0;
-    while i < 16 {
+    for i in 0..16 {
         if rest % 2 == 1 {
             return i;
         }
-        rest = rest / 2;
-        i += 1;
+        rest /= 2;
     }
     Processor::NO_EXCEPTION
 }
 
 // The channel that is accepted, or 32.
+#[tactic(auto, unfolding(crate::specs::Interrupt::channel, crate::specs::Interrupt::lowest, status::specs::Psw::interrupt_current, status::specs::Psw::enabled))]
 pub fn accepted(psw: u32, lines: u32) -> u32
     ensures { result ≡ channel psw lines }
 {
@@ -43,7 +42,8 @@ pub fn accepted(psw: u32, lines: u32) -> u32
     Processor::NO_EXCEPTION
 }
 
-// What a step will do, and the opcode of the word that it fetched, or 64.
+// What a step will do, and the opcode of the word that it fetched, or 64. It stays a number, as the definitions have it (`opcode_from`,
+// `charges::EXCEPTION`): an opcode is the entry of the charges that a step costs.
 #[derive(Clone, Copy)]
 pub struct Looked {
     pub action: Coded,
@@ -54,49 +54,35 @@ pub struct Looked {
 const NO_OPCODE: u32 = 64;
 
 // What the step does, from what it reads; `i` is the index of the PC's page.
+#[tactic(auto, using(crate::proofs::Looks::look_interrupt, crate::proofs::Looks::look_decodes, crate::proofs::Looks::opcode_interrupt))]
 pub fn look_at<'a>(
     registers: &'a Words,
     pc: u32,
-    psw: u32,
-    highs: &'a Words,
-    lows: &'a Words,
     i: usize,
-    timer: Timer,
-    ram: &[u8],
-    rom: &[u8],
-    belt: &[u8],
+    surroundings: Surroundings<'a>,
     lines: u32,
 ) -> Looked
-    requires { Serves highs.now i pc }
-    ensures action { action_of result.action ≡ look_from (around psw highs.now lows.now timer ram.now rom.now belt.now) registers.now pc lines }
-    ensures opcode { (result.opcode ≡ opcode_from (around psw highs.now lows.now timer ram.now rom.now belt.now) pc lines) × (result.opcode ≤ 64) }
+    requires { Serves surroundings.highs.now i pc }
+    ensures action { action_of result.action ≡ look_from (surroundings_of surroundings.entry) registers.now pc lines }
+    ensures opcode { (result.opcode ≡ opcode_from (surroundings_of surroundings.entry) pc lines) × (result.opcode ≤ 64) }
 {
-    let channel = accepted(psw, lines);
+    let channel = accepted(surroundings.psw, lines);
     if channel < Processor::NO_EXCEPTION {
         return Looked {
-            action: Coded::Exception(channel, 0, 0, 0),
+            action: Coded::fault(channel),
             opcode: NO_OPCODE,
         };
     }
-    let fetched = access::fetch(psw, highs, lows, i, timer, ram, rom, belt, pc);
-    match fetched {
-        Read::Value(word, _) => Looked {
-            action: decode::execute(
-                registers,
-                psw,
-                highs,
-                lows,
-                timer,
-                ram,
-                rom,
-                belt,
-                word,
-                sums::add(pc, 4),
-            ),
-            opcode: word / 0x400_0000,
+    match surroundings.fetch(i, pc) {
+        Ok(fetched) => Looked {
+            action: decode::execute(registers, surroundings, fetched.value, sums::add(pc, 4)),
+            opcode: fetched.value / 0x400_0000,
         },
-        Read::Fault(eid) => Looked {
-            action: Coded::Exception(eid, pc, 0, 0),
+        Err(fault) => Looked {
+            action: Coded::Exception {
+                eid: fault.eid(),
+                address: pc,
+            },
             opcode: NO_OPCODE,
         },
     }

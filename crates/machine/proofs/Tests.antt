@@ -1,15 +1,16 @@
 -- Tests joined by `&` and by `both` are the same: those of fitness, of the special registers and of the TLB's words.
-use mathlib.Core.Path.{◌≡◌, refl, sym, ◌∙◌}
+use mathlib.Core.Path.{◌≡◌, refl, ap, ap₂, sym, ◌∙◌}
 use mathlib.Core.Bool.{Bool, true, false, ◌&&◌}
 use mathlib.Core.List.{List}
-use Prim.Native.Nat.{ℕ, ◌+◌, ◌-◌, ◌≤◌, ◌<◌}
-use native.Mathlib.Numerals.{add-one}
+use Prim.Native.Nat.{ℕ, zero, suc, ◌+◌}
+use native.Mathlib.Omega.{arith}
 use lib.Dec.{eqb, leb}
-use lib.ListN.{get_or}
+use lib.ListN.{length, get_or, drop, drop_of_length-le}
+use lib.Seq.{drop-cons}
+use Rattle.std.specs.List.{list_all}
 use Rattle.words.specs.Logic.{both}
 use Rattle.words.proofs.Conjunction.{two, four, five}
-use Rattle.words.proofs.Counts.{left, over}
-use Rattle.kept_bits.specs.Kept.{kept_psw, kept_index, kept_high, kept_low, only_from}
+use Rattle.kept_bits.specs.Kept.{kept_psw, kept_index, kept_high, kept_low, only, only_from}
 use Rattle.kept_bits.specs.Code.{only_special}
 use Rattle.timer.specs.Timer.{timer_fit}
 use Rattle.timer.specs.declared.Timer.{Timer}
@@ -17,6 +18,24 @@ use Rattle.machine.specs.Machine.{fit_with}
 use Rattle.processor.specs.State.{fit}
 use Rattle.processor.specs.declared.Processor.{Processor}
 use Rattle.processor.proofs.FitLaws.{fit_parts}
+
+-- ---- the TLB's words
+
+module _ (kept : ℕ → ℕ) (l : List ℕ) (h : length l ≡ 32) where
+  rest_all : (n i : ℕ) → i + n ≡ 32 → list_all (only kept) (drop i l) ≡ only_from kept n l i
+  unfolding only_from
+  rest_all zero i e = ap (list_all (only kept)) (drop_of_length-le l (omega (arith, h)))
+  rest_all (suc n) i e =
+      rw (drop-cons l i 0 (omega (arith, h)), rest_all n (suc i) (omega arith)) (two (only kept (get_or l i 0)) (only_from kept n l (suc i)))
+
+  all_only : list_all (only kept) l ≡ only_from kept 32 l 0
+  all_only = rest_all 32 0 refl
+
+-- from what is found of the high words and of the low words
+pub only_all : (highs lows : List ℕ) → length highs ≡ 32 → length lows ≡ 32 → {a b : Bool}
+    → a ≡ list_all (only kept_high) highs → b ≡ list_all (only kept_low) lows
+    → (a && b) ≡ both (only_from kept_high 32 highs 0) (only_from kept_low 32 lows 0)
+only_all highs lows h k {a} {b} p q = two a b ∙ ap₂ both (p ∙ all_only kept_high highs h) (q ∙ all_only kept_low lows k)
 
 -- ---- fitness
 
@@ -52,39 +71,3 @@ pub only_four : (psw index high low : ℕ) {a b c d : ℕ}
 unfolding only_special
 only_four psw index high low p q r s =
     rw (p, q, r, s) (four (eqb (kept_psw psw) psw) (eqb (kept_index index) index) (eqb (kept_high high) high) (eqb (kept_low low) low))
-
--- ---- the TLB's words, as their loop runs
-
-turn : (found high low highs lows : Bool)
-    → both found (both (both high highs) (both low lows))
-    ≡ both ((found && high) && low) (both highs lows)
-turn false high low highs lows = refl
-turn true false low highs lows = refl
-turn true true true highs lows = refl
-turn true true false true lows = refl
-turn true true false false lows = refl
-
-last : (found : Bool) → both found (both true true) ≡ found
-last true = refl
-last false = refl
-
--- the words from the i-th on, after what was found of those before it
-abbrev pub rest_only : List ℕ → List ℕ → Bool → ℕ → Bool
-rest_only highs lows found i =
-    both found (both (only_from kept_high (32 - i) highs i) (only_from kept_low (32 - i) lows i))
-
-module _ (highs lows : List ℕ) (found : Bool) (i : ℕ) where
-  pub only_more : {a b : ℕ}
-      → i < 32
-      → a ≡ kept_high (get_or highs i 0)
-      → b ≡ kept_low (get_or lows i 0)
-      → rest_only highs lows found i
-      ≡ rest_only highs lows ((found && eqb a (get_or highs i 0)) && eqb b (get_or lows i 0)) (i + 1)
-  unfolding only_from
-  only_more h p q =
-      rw (p, q, left 32 i h, add-one i)
-      (turn found (eqb (kept_high (get_or highs i 0)) (get_or highs i 0)) (eqb (kept_low (get_or lows i 0)) (get_or lows i 0)) _ _)
-
-  pub only_end : 32 ≤ i → rest_only highs lows found i ≡ found
-  unfolding only_from
-  only_end h = rw (over 32 i h) (last found)

@@ -7,6 +7,7 @@ use Rattle.memory.specs.Map.{Memory, memory}
 use Rattle.memory.specs.Lent.{Lent, lent, left}
 use Rattle.processor.specs.State.{fit}
 use Rattle.processor.specs.declared.Processor.{Processor}
+use Rattle.machine.specs.declared.State.{State}
 
 pub record Machine : Type 0 where
   pub processor : Processor
@@ -22,6 +23,14 @@ before p t ram rom belt = record { processor = p; timer = t; memory = lent ram r
 
 abbrev pub after : Processor → Timer → Lent → Lent → Lent → Machine
 after p t ram rom belt = record { processor = p; timer = t; memory = left ram rom belt }
+
+-- the code's state: a processor and its timer
+abbrev pub state : Processor → Timer → State
+state p t = record { processor = p; timer = t }
+
+-- the machine of a state with the memory that it is lent, or that a call left
+abbrev pub machine_of : State → Lent → Lent → Lent → Machine
+machine_of s ram rom belt = before s.processor s.timer ram rom belt
 
 -- cause 6 of "Refused calls", of a processor with its timer
 unfoldable pub fit_with : Processor → Timer → Bool

@@ -10,8 +10,8 @@ use Rattle.memory.specs.Map.{Memory, place_in}
 use Rattle.memory.specs.Access.{read_in, load_of, write_in, memory_after, written_in, timer_after}
 use Rattle.memory.specs.declared.Place.{Place}
 use Rattle.memory.specs.declared.Place.TheVariants.{Ram, Rom, Belt, Timer, Nothing}
-use Rattle.memory.specs.declared.Loaded.{Loaded}
-use Rattle.memory.specs.declared.Loaded.TheVariants as loaded
+use Rattle.memory.specs.Loaded.{Loaded}
+use Rattle.memory.specs.Loaded as loaded
 use Rattle.memory.proofs.Places.{Lies, place_lies}
 
 pub record Bytewise (m : Memory) : Type 0 where

@@ -10,10 +10,10 @@ use Rattle.memory.specs.Map.{Memory, memory, locate, place_of, place_in}
 use Rattle.memory.specs.Access.{read_in, load_of, completes, store_answer, write_in, memory_after, written_in, timer_after, loaded_eid, loaded_value, stored_eid}
 use Rattle.memory.specs.declared.Place.{Place}
 use Rattle.memory.specs.declared.Place.TheVariants.{Ram, Rom, Belt, Timer, Nothing}
-use Rattle.memory.specs.declared.Loaded.{Loaded}
-use Rattle.memory.specs.declared.Loaded.TheVariants as loaded
-use Rattle.memory.specs.declared.Stored.{Stored}
-use Rattle.memory.specs.declared.Stored.TheVariants as stored
+use Rattle.memory.specs.Loaded.{Loaded}
+use Rattle.memory.specs.Loaded as loaded
+use Rattle.memory.specs.Stored.{Stored}
+use Rattle.memory.specs.Stored as stored
 use Rattle.memory.proofs.Places.{place_by, narrow_belt}
 
 -- ---- stores

@@ -9,7 +9,7 @@ use Rattle.memory.specs.Map.{Memory, locate, place_in, byte_in, byte_at, rom_bas
 use Rattle.memory.specs.Access.{read_in, load_of}
 use Rattle.memory.specs.declared.Place.{Place}
 use Rattle.memory.specs.declared.Place.TheVariants.{Ram, Rom, Belt, Timer, Nothing}
-use Rattle.memory.specs.declared.Loaded.TheVariants as loaded
+use Rattle.memory.specs.Loaded as loaded
 use Rattle.memory.proofs.Places.{locate_ram, locate_rom, locate_belt, true_within, within_past, Lies, place_lies}
 use Rattle.memory.proofs.Outcomes.{load_at}
 

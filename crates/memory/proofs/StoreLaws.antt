@@ -10,7 +10,7 @@ use Rattle.memory.specs.Map.{Memory, locate, place_in, byte_in, byte_at, timer_b
 use Rattle.memory.specs.Access.{load_of, write_in, memory_after, written_in, timer_after}
 use Rattle.memory.specs.declared.Place.{Place}
 use Rattle.memory.specs.declared.Place.TheVariants.{Ram, Rom, Belt, Timer, Nothing}
-use Rattle.memory.specs.declared.Loaded.TheVariants as loaded
+use Rattle.memory.specs.Loaded as loaded
 use Rattle.memory.proofs.Places.{Lies, lies, place_lies}
 use Rattle.memory.proofs.Outcomes.{load_at, stored_at}
 use Rattle.memory.proofs.OwnBytes.{SameLengths, same_locate, same_place}

@@ -7,10 +7,10 @@ use Rattle.timer.specs.Timer.{register_read, register_written}
 use Rattle.memory.specs.Map.{Memory, memory, place_in}
 use Rattle.memory.specs.declared.Place.{Place}
 use Rattle.memory.specs.declared.Place.TheVariants.{Ram, Rom, Belt, Timer, Nothing}
-use Rattle.memory.specs.declared.Loaded.{Loaded}
-use Rattle.memory.specs.declared.Loaded.TheVariants as loaded
-use Rattle.memory.specs.declared.Stored.{Stored}
-use Rattle.memory.specs.declared.Stored.TheVariants as stored
+use Rattle.memory.specs.Loaded.{Loaded}
+use Rattle.memory.specs.Loaded as loaded
+use Rattle.memory.specs.Stored.{Stored}
+use Rattle.memory.specs.Stored as stored
 
 -- what is read at a place
 abbrev pub read_in : ℕ → timer.Timer → Memory → Place → Loaded

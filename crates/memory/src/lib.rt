@@ -1,4 +1,4 @@
-// Physical memory: which of RAM, ROM, the belt registers and the timer answers at an address, and what a load and a store answer.
+// Physical memory: which of RAM, ROM, the belt registers and the timer answers at an address.
 #![tactic(auto)]
 
 ghost use Rattle.std.specs.Prelude.{◌≡◌};
@@ -15,7 +15,7 @@ const TIMER_CONTROL: u32 = 0x3000_0000;
 const TIMER_DIVISOR: u32 = 0x3000_0004;
 
 // Where an access goes, with its offset there.
-#[derive(Clone, Copy)]
+#[derive(Clone, Copy, Debug, PartialEq, Eq)]
 pub enum Place {
     Ram(u32),
     Rom(u32),
@@ -24,25 +24,11 @@ pub enum Place {
     Nothing,
 }
 
-#[derive(Clone, Copy)]
-pub enum Loaded {
-    Value(u32),
-    Timeout,
-}
-
-#[derive(Clone, Copy)]
-pub enum Stored {
-    Done,
-    Timeout,
-}
-
+#[tactic(auto, using(crate::proofs::Places::within_not, crate::proofs::Places::within_by_end))]
 fn within(base: u32, len: usize, width: u32, address: u32) -> bool
     ensures { result ≡ within base len width address }
 {
-    if address < base {
-        return false;
-    }
-    (address - base) as usize + width as usize <= len
+    base <= address && (address - base) as usize + width as usize <= len
 }
 
 // The place of the width's bytes from an address, by the lengths of RAM, ROM and belt.

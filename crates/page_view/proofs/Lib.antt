@@ -1,5 +1,5 @@
 -- The laws of `page_view`.
 pub mod Answers
 pub mod Lookup
-pub mod Frame
+pub mod FrameLaws
 pub mod Loads

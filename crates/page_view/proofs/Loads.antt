@@ -12,18 +12,18 @@ use Rattle.timer.specs.declared.Timer.{Timer}
 use Rattle.memory.specs.Map.{Memory, memory, place_in}
 use Rattle.memory.specs.Access.{load_of}
 use Rattle.memory.specs.declared.Place.TheVariants.{Ram}
-use Rattle.memory.specs.declared.Loaded.TheVariants as loaded
+use Rattle.memory.specs.Loaded as loaded
 use Rattle.memory.proofs.Places.{true_within, locate_ram, place_by}
 use Rattle.memory.proofs.Outcomes.{load_at}
 use Rattle.status.specs.Psw.{user_mode}
 use Rattle.processor.specs.declared.Processor.{Processor}
 use Rattle.instructions.specs.Operands.{surroundings}
 use Rattle.access.specs.Reads.{answered, read_through, read_from}
-use Rattle.access.specs.declared.Read.TheVariants.{Value, Fault}
+use Rattle.access.specs.Read.{Value, Fault}
 use Rattle.page_view.specs.View.{view_refusal, view_of}
 use Rattle.page_view.specs.Part.{view_part}
 use Rattle.page_view.proofs.Lookup.{frame_byte}
-use Rattle.page_view.proofs.Frame.{first_byte, whole, part_is}
+use Rattle.page_view.proofs.FrameLaws.{first_byte, whole, part_is}
 
 one_byte : (s : List ℕ) (at : ℕ) → read_at 1 s at ≡ get_or s at 0
 unfolding read_at

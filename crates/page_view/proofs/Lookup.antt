@@ -13,8 +13,7 @@ use Rattle.status.specs.Psw.{user_mode, user_current}
 use Rattle.tlb.specs.Lookup.{lookup}
 use Rattle.translation.specs.Translation.{frame_of, valid, through, mapped, forbidden, translated, physical_of, translation_slot}
 use Rattle.processor.specs.declared.Processor.{Processor}
-use Rattle.translation.specs.declared.Translation.{Translation}
-use Rattle.translation.specs.declared.Translation.TheVariants.{Physical, TlbMiss, TlbInvalid}
+use Rattle.translation.specs.Translation.{Translation, Physical, TlbMiss, TlbInvalid}
 use Rattle.page_view.specs.View.{kernel_mode, looked_up}
 use Rattle.words.proofs.Conjunction.{second_false}
 

@@ -6,7 +6,7 @@ use Rattle.tlb.specs.Lookup.{no_slot}
 use Rattle.translation.specs.Translation.{translated, resolved, physical_of, translation_slot}
 use Rattle.processor.specs.State.{fit}
 use Rattle.processor.specs.declared.Processor.{Processor}
-use Rattle.translation.specs.declared.Translation.{Translation}
+use Rattle.translation.specs.Translation.{Translation}
 use Rattle.refusals.specs.Refusal.{Test, first_failed, ram_test, fit_test, frame_test}
 
 -- ---- the lookup: "a Kernel Mode load of its first byte"

@@ -2,3 +2,4 @@
 pub mod EntryLaws
 pub mod FitLaws
 pub mod FitKept
+pub mod RegisterLaws

@@ -4,54 +4,50 @@ ghost use Rattle.processor.specs.Entry.{service_base, user_miss, service_address
 
 use crate::Processor;
 
+#[tactic(auto, unfolding(crate::specs::Entry::service_base, status::specs::Psw::vector))]
 fn service_base(psw: u32) -> u32
     ensures { result ≡ service_base psw }
 {
     if psw / 0x800_0000 % 2 == 0 {
-        return Processor::ROM_SERVICE;
+        Processor::ROM_SERVICE
+    } else {
+        Processor::RAM_SERVICE
     }
-    Processor::RAM_SERVICE
 }
 
+#[tactic(auto, unfolding(crate::specs::Entry::user_miss))]
 fn is_user_miss(eid: u32, address: u32) -> bool
     ensures { result ≡ user_miss eid address }
 {
-    if eid == Processor::TLB_MISS {
-        return address < 0x8000_0000;
-    }
-    false
+    eid == Processor::TLB_MISS && address < 0x8000_0000
 }
 
+#[tactic(auto, using(crate::proofs::EntryLaws::base_small), unfolding(crate::specs::Entry::service_address))]
 pub fn service_address(psw: u32, eid: u32, address: u32) -> u32
     ensures { result ≡ service_address psw eid address }
 {
-    let base = service_base(psw);
     if is_user_miss(eid, address) {
-        return std::num::wrapping_add_u32(base, Processor::USER_MISS_SERVICE);
+        service_base(psw) + Processor::USER_MISS_SERVICE
+    } else {
+        service_base(psw) + Processor::GENERAL_SERVICE
     }
-    std::num::wrapping_add_u32(base, Processor::GENERAL_SERVICE)
 }
 
 pub fn bad_address(eid: u32, address: u32, former: u32) -> u32
     ensures { result ≡ bad_address_after eid address former }
 {
-    if eid < Processor::TLB_MISS {
-        return former;
+    match eid {
+        Processor::TLB_MISS..=Processor::PRIVILEGED_ADDRESS => address,
+        _ => former,
     }
-    if eid <= Processor::PRIVILEGED_ADDRESS {
-        return address;
-    }
-    former
 }
 
+#[tactic(auto, unfolding(kept_bits::specs::Kept::kept_high))]
 pub fn entry_high(eid: u32, address: u32, former: u32) -> u32
     ensures { result ≡ entry_high_after eid address former }
 {
-    if eid < Processor::TLB_MISS {
-        return former;
+    match eid {
+        Processor::TLB_MISS..=Processor::TLB_INVALID => kept_bits::kept_high(address),
+        _ => former,
     }
-    if eid <= Processor::TLB_INVALID {
-        return address / 0x1000 * 0x1000;
-    }
-    former
 }

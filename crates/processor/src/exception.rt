@@ -6,34 +6,23 @@ use crate::{Processor, entry};
 
 impl Processor {
     // An exception is accepted, before the instruction at the PC completes.
-    pub fn enter(self, eid: u32, address: u32) -> Self
-        ensures { result ≡ entered self eid address }
+    #[tactic(auto, unfolding(crate::specs::Exception::entered))]
+    pub fn enter(&mut self, eid: u32, address: u32)
+        ensures { self.new ≡ entered self.old eid address }
     {
-        let mut registers = self.registers;
-        registers[30] = self.pc;
-        let tlbhigh = self.tlbhigh;
-        let tlblow = self.tlblow;
-        Self {
-            registers: registers,
-            pc: entry::service_address(self.psw, eid, address),
-            psw: status::push(self.psw, eid),
-            index: self.index,
-            entryhigh: entry::entry_high(eid, address, self.entryhigh),
-            entrylow: self.entrylow,
-            badaddress: entry::bad_address(eid, address, self.badaddress),
-            tlbhigh: tlbhigh,
-            tlblow: tlblow,
-            replacement: self.replacement,
-        }
+        self.registers[30] = self.pc;
+        self.pc = entry::service_address(self.psw, eid, address);
+        self.psw = status::push(self.psw, eid);
+        self.entryhigh = entry::entry_high(eid, address, self.entryhigh);
+        self.badaddress = entry::bad_address(eid, address, self.badaddress);
     }
 
     // RFX.
-    pub fn leave(mut self) -> Self
-        ensures { result ≡ returned self }
+    #[tactic(auto, unfolding(crate::specs::Exception::returned))]
+    pub fn leave(&mut self)
+        ensures { self.new ≡ returned self.old }
     {
-        let registers = self.registers;
-        self.pc = registers[30];
+        self.pc = self.registers[30];
         self.psw = status::pop(self.psw);
-        self
     }
 }

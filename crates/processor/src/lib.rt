@@ -1,5 +1,5 @@
 // The processor state, and what changes it: exception entry and return, register writes, the TLB.
-// Each method takes the processor by value and hands back the next; its contract is one equation of whole states.
+// Each method changes the processor in place; its contract is one equation of the whole states before and after.
 #![tactic(auto)]
 
 ghost use Rattle.std.specs.Prelude.{◌≡◌};
@@ -14,7 +14,7 @@ mod tlb_write;
 pub type Words = [u32; 32];
 
 // The first five items of the machine record. The special registers are psw to badaddress; TLB entry i is tlbhigh[i], tlblow[i].
-#[derive(Clone, Copy)]
+#[derive(Clone, Copy, Debug, PartialEq, Eq)]
 pub struct Processor {
     pub registers: Words,
     pub pc: u32,
@@ -61,6 +61,7 @@ impl Processor {
 
     pub const USER_MISS_SERVICE: u32 = 8;
 
+    #[tactic(auto, unfolding(crate::specs::State::at_reset))]
     pub fn reset() -> Self
         ensures { result ≡ at_reset }
     {

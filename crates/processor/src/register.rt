@@ -6,60 +6,36 @@ use crate::Processor;
 
 impl Processor {
     // A register written, and the PC after the instruction. Register 0 never changes.
-    pub fn write(self, number: u32, value: u32, next: u32) -> Self
-        ensures { result ≡ written self number value next }
+    #[tactic(auto, unfolding(crate::specs::Register::written, crate::specs::Register::put))]
+    pub fn write(&mut self, number: u32, value: u32, next: u32)
+        ensures { self.new ≡ written self.old number value next }
     {
         let n = (number % 32) as usize;
-        if n == 0 {
-            return self.jump(next);
+        if n != 0 {
+            self.registers[n] = value;
         }
-        let mut registers = self.registers;
-        registers[n] = value;
-        let tlbhigh = self.tlbhigh;
-        let tlblow = self.tlblow;
-        Self {
-            registers: registers,
-            pc: next,
-            psw: self.psw,
-            index: self.index,
-            entryhigh: self.entryhigh,
-            entrylow: self.entrylow,
-            badaddress: self.badaddress,
-            tlbhigh: tlbhigh,
-            tlblow: tlblow,
-            replacement: self.replacement,
-        }
+        self.pc = next;
     }
 
-    pub fn jump(self, target: u32) -> Self
-        ensures { result ≡ jumped self target }
+    #[tactic(auto, unfolding(crate::specs::Register::jumped))]
+    pub fn jump(&mut self, target: u32)
+        ensures { self.new ≡ jumped self.old target }
     {
-        let registers = self.registers;
-        let tlbhigh = self.tlbhigh;
-        let tlblow = self.tlblow;
-        Self {
-            registers: registers,
-            pc: target,
-            psw: self.psw,
-            index: self.index,
-            entryhigh: self.entryhigh,
-            entrylow: self.entrylow,
-            badaddress: self.badaddress,
-            tlbhigh: tlbhigh,
-            tlblow: tlblow,
-            replacement: self.replacement,
-        }
+        self.pc = target;
     }
 
     // Only kept bits are stored, and nothing for a number above 4.
-    pub fn write_special(mut self, number: u32, value: u32) -> Self
-        ensures { result ≡ special_written self number value }
+    #[tactic(auto, unfolding(crate::specs::Register::special_written))]
+    pub fn write_special(&mut self, number: u32, value: u32)
+        ensures { self.new ≡ special_written self.old number value }
     {
-        self.psw = kept_bits::psw_after(number, value, self.psw);
-        self.index = kept_bits::index_after(number, value, self.index);
-        self.entryhigh = kept_bits::high_after(number, value, self.entryhigh);
-        self.entrylow = kept_bits::low_after(number, value, self.entrylow);
-        self.badaddress = kept_bits::after(number, 4, value, self.badaddress);
-        self
+        match number {
+            0 => self.psw = kept_bits::kept_psw(value),
+            1 => self.index = kept_bits::kept_index(value),
+            2 => self.entryhigh = kept_bits::kept_high(value),
+            3 => self.entrylow = kept_bits::kept_low(value),
+            4 => self.badaddress = value,
+            _ => {}
+        }
     }
 }

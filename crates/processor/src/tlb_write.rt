@@ -6,30 +6,28 @@ use crate::Processor;
 
 impl Processor {
     // A TLB entry, from Entry High and Entry Low.
-    fn write_entry(mut self, i: usize) -> Self
-        ensures { result ≡ entry_written self i }
+    #[tactic(auto, unfolding(crate::specs::Tlb::entry_written))]
+    fn write_entry(&mut self, i: usize)
+        ensures { self.new ≡ entry_written self.old i }
     {
         let n = i % 32;
-        let mut tlbhigh = self.tlbhigh;
-        tlbhigh[n] = self.entryhigh;
-        self.tlbhigh = tlbhigh;
-        let mut tlblow = self.tlblow;
-        tlblow[n] = self.entrylow;
-        self.tlblow = tlblow;
-        self
+        self.tlbhigh[n] = self.entryhigh;
+        self.tlblow[n] = self.entrylow;
     }
 
     // TBWI.
-    pub fn write_indexed(self) -> Self
-        ensures { result ≡ indexed_written self }
+    #[tactic(auto, unfolding(crate::specs::Tlb::indexed_written))]
+    pub fn write_indexed(&mut self)
+        ensures { self.new ≡ indexed_written self.old }
     {
-        self.write_entry(self.index as usize)
+        self.write_entry(self.index as usize);
     }
 
     // TBWR. The step moves the replacement index, and this does not.
-    pub fn write_random(self) -> Self
-        ensures { result ≡ random_written self }
+    #[tactic(auto, unfolding(crate::specs::Tlb::random_written))]
+    pub fn write_random(&mut self)
+        ensures { self.new ≡ random_written self.old }
     {
-        self.write_entry(self.replacement as usize)
+        self.write_entry(self.replacement as usize);
     }
 }

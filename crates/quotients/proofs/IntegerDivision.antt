@@ -27,7 +27,7 @@ quotient_and_remainder (negsuc a) (pos b) =
     whole_below (suc a) b ∙ ap (λ (k : ℤ). k +ℤ neg_ℤ (pos (suc a % b))) (sym (opposite_times_pos (suc a / b) b))
 quotient_and_remainder (negsuc a) (negsuc b) = whole_below (suc a) (suc b)
 
-size_of_opposite : (n : ℕ) → nat_abs (neg_ℤ (pos n)) ≡ n
+pub size_of_opposite : (n : ℕ) → nat_abs (neg_ℤ (pos n)) ≡ n
 size_of_opposite zero = refl
 size_of_opposite (suc n) = refl
 

@@ -1,3 +1,2 @@
 -- The definitions of `quotients`.
 pub mod Quotients
-pub mod Code

@@ -1,2 +1,3 @@
--- The definitions of `record`.
+-- The definitions of `record`, in the order to read them.
 pub mod Calls
+pub mod Code

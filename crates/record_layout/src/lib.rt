@@ -1,12 +1,14 @@
-// The layout of the machine record: where its kind bytes and numbers stand, and a processor and its timer got from it and put into it.
+// The layout of the machine record: where its kind bytes and numbers stand, and a state got from it and put into it.
 #![tactic(auto)]
 
 ghost use Rattle.std.specs.Prelude.{◌≡◌, length, ◌++◌, eqb, drop, take, ◌<◌, ◌≤◌};
 ghost use Rattle.words.specs.Logic.{either};
 ghost use Rattle.endian.specs.BigEndian.{read_at};
+ghost use Rattle.machine.specs.Machine.{state};
 ghost use Rattle.record_layout.specs.Layout.{timer_kind_at};
 ghost use Rattle.record_layout.specs.Record.{timerless, kinds_in_place, processor_of, timer_of, processor_items, timer_item, record_of};
 
+use machine::State;
 use processor::Processor;
 use timer::Timer;
 
@@ -62,18 +64,18 @@ fn timer_kind_in_place(s: &[u8]) -> bool
     if s.len() < LENGTH {
         return true;
     }
-    endian::read_byte(s, TIMER_KIND_AT) == 6
+    endian::read::<1>(s, TIMER_KIND_AT) == 6
 }
 
 pub fn kinds_in_place(s: &[u8]) -> bool
     requires { 414 ≤ length s.now }
     ensures { result ≡ kinds_in_place s.now }
 {
-    (endian::read_byte(s, REGISTERS_KIND_AT) == 1)
-        & (endian::read_byte(s, PC_KIND_AT) == 2)
-        & (endian::read_byte(s, SPECIAL_KIND_AT) == 3)
-        & (endian::read_byte(s, TLB_KIND_AT) == 4)
-        & (endian::read_byte(s, REPLACEMENT_KIND_AT) == 5)
+    (endian::read::<1>(s, REGISTERS_KIND_AT) == 1)
+        & (endian::read::<1>(s, PC_KIND_AT) == 2)
+        & (endian::read::<1>(s, SPECIAL_KIND_AT) == 3)
+        & (endian::read::<1>(s, TLB_KIND_AT) == 4)
+        & (endian::read::<1>(s, REPLACEMENT_KIND_AT) == 5)
         & timer_kind_in_place(s)
 }
 
@@ -85,14 +87,14 @@ pub fn get_timer(s: &[u8]) -> Timer
         return Timer::reset();
     }
     Timer {
-        divisor: endian::read_word(s, DIVISOR_AT),
-        counter: endian::read_word(s, COUNTER_AT),
-        control: endian::read_byte(s, CONTROL_AT),
+        divisor: endian::read::<4>(s, DIVISOR_AT),
+        counter: endian::read::<4>(s, COUNTER_AT),
+        control: endian::read::<1>(s, CONTROL_AT),
     }
 }
 
 // The processor that a record holds.
-pub fn get(s: &[u8]) -> Processor
+fn get_processor(s: &[u8]) -> Processor
     requires { 414 ≤ length s.now }
     ensures { result ≡ processor_of s.now }
 {
@@ -103,16 +105,26 @@ pub fn get(s: &[u8]) -> Processor
     arrays::get_words(s, TLB_HIGH_AT, 8, &mut tlbhigh);
     arrays::get_words(s, TLB_LOW_AT, 8, &mut tlblow);
     Processor {
-        registers: registers,
-        pc: endian::read_word(s, PC_AT),
-        psw: endian::read_word(s, PSW_AT),
-        index: endian::read_word(s, INDEX_AT),
-        entryhigh: endian::read_word(s, ENTRY_HIGH_AT),
-        entrylow: endian::read_word(s, ENTRY_LOW_AT),
-        badaddress: endian::read_word(s, BAD_ADDRESS_AT),
-        tlbhigh: tlbhigh,
-        tlblow: tlblow,
-        replacement: endian::read_byte(s, REPLACEMENT_AT),
+        registers,
+        pc: endian::read::<4>(s, PC_AT),
+        psw: endian::read::<4>(s, PSW_AT),
+        index: endian::read::<4>(s, INDEX_AT),
+        entryhigh: endian::read::<4>(s, ENTRY_HIGH_AT),
+        entrylow: endian::read::<4>(s, ENTRY_LOW_AT),
+        badaddress: endian::read::<4>(s, BAD_ADDRESS_AT),
+        tlbhigh,
+        tlblow,
+        replacement: endian::read::<1>(s, REPLACEMENT_AT),
+    }
+}
+
+pub fn get(s: &[u8]) -> State
+    requires { 414 ≤ length s.now }
+    ensures { result ≡ state (processor_of s.now) (timer_of s.now) }
+{
+    State {
+        processor: get_processor(s),
+        timer: get_timer(s),
     }
 }
 
@@ -122,17 +134,17 @@ fn put_processor(p: Processor, s: &mut [u8])
     ensures { s.new ≡ processor_items p ++ drop 414 s.old }
 {
     let specials = [p.psw, p.index, p.entryhigh, p.entrylow, p.badaddress];
-    endian::write_byte(s, REGISTERS_KIND_AT, 1);
+    endian::write::<1>(s, REGISTERS_KIND_AT, 1);
     arrays::put_words(s, REGISTERS_AT, 4, &p.registers);
-    endian::write_byte(s, PC_KIND_AT, 2);
-    endian::write_word(s, PC_AT, p.pc);
-    endian::write_byte(s, SPECIAL_KIND_AT, 3);
+    endian::write::<1>(s, PC_KIND_AT, 2);
+    endian::write::<4>(s, PC_AT, p.pc);
+    endian::write::<1>(s, SPECIAL_KIND_AT, 3);
     arrays::put_words(s, PSW_AT, 4, &specials);
-    endian::write_byte(s, TLB_KIND_AT, 4);
+    endian::write::<1>(s, TLB_KIND_AT, 4);
     arrays::put_words(s, TLB_HIGH_AT, 8, &p.tlbhigh);
     arrays::put_words(s, TLB_LOW_AT, 8, &p.tlblow);
-    endian::write_byte(s, REPLACEMENT_KIND_AT, 5);
-    endian::write_byte(s, REPLACEMENT_AT, p.replacement);
+    endian::write::<1>(s, REPLACEMENT_KIND_AT, 5);
+    endian::write::<1>(s, REPLACEMENT_AT, p.replacement);
 }
 
 // The timer's item, into the last ten.
@@ -140,17 +152,17 @@ fn put_timer(timer: Timer, s: &mut [u8])
     requires { (length s.old ≡ 424) × (timer.control < 256) }
     ensures { s.new ≡ take 414 s.old ++ timer_item timer }
 {
-    endian::write_byte(s, TIMER_KIND_AT, 6);
-    endian::write_word(s, DIVISOR_AT, timer.divisor);
-    endian::write_word(s, COUNTER_AT, timer.counter);
-    endian::write_byte(s, CONTROL_AT, timer.control);
+    endian::write::<1>(s, TIMER_KIND_AT, 6);
+    endian::write::<4>(s, DIVISOR_AT, timer.divisor);
+    endian::write::<4>(s, COUNTER_AT, timer.counter);
+    endian::write::<1>(s, CONTROL_AT, timer.control);
 }
 
-// The record of a processor and its timer, into a buffer of its length.
-pub fn put(p: Processor, timer: Timer, s: &mut [u8])
-    requires { (length s.old ≡ 424) × (p.replacement < 256) × (timer.control < 256) }
-    ensures { s.new ≡ record_of p timer }
+// The record of a state, into a buffer of its length.
+pub fn put(state: State, s: &mut [u8])
+    requires { (length s.old ≡ 424) × (state.processor.replacement < 256) × (state.timer.control < 256) }
+    ensures { s.new ≡ record_of state.processor state.timer }
 {
-    put_timer(timer, s);
-    put_processor(p, s);
+    put_timer(state.timer, s);
+    put_processor(state.processor, s);
 }

@@ -1,16 +1,18 @@
 -- The lengths and steps that are accepted, in numbers; and the tests of lengths as the code has them.
 use mathlib.Core.Path.{◌≡◌, refl, sym, ◌∙◌}
-use mathlib.Core.Bool.{Bool, true, false, cond, ◌&&◌, true≢false}
+use mathlib.Core.Bool.{Bool, true, false, cond, ◌&&◌}
 use mathlib.Core.List.{List, [], ◌++◌}
 use Prim.Native.Nat.{ℕ, ◌*◌, ◌/◌, ◌%◌, ◌≤◌}
 use native.Mathlib.Omega.{arith}
 use lib.Dec.{leb, eqb}
+use Rattle.std.specs.Prelude.{Option, Some, None}
+use Rattle.std.specs.Borrow.{Bor}
 use borrow.Author.Tests.{leb-true, eqb-true, le-leb, eq-eqb}
 use Rattle.words.specs.Logic.{both, Exactly}
 use Rattle.words.proofs.Conjunction.{both_true, true_both, three}
 use lib.ListN.{length}
 use Rattle.charges.specs.Charges.{Charging, Uncharged, ChargedBy}
-use Rattle.charges.specs.Code.{charging_by, Whole}
+use Rattle.charges.specs.Code.{charging_of, IsWhole}
 use Rattle.refusals.specs.Refusal.{pages_up_to, ram_accepted, rom_accepted, belt_accepted, most_steps, Test, first_failed, charges_tests}
 use Rattle.refusals.specs.Cause.{AllPass, Divides, RamLength, RomLength, BeltLength, Steps, ChargesLength}
 use Rattle.refusals.proofs.FirstFailed.{numbered, joined}
@@ -52,9 +54,9 @@ charges_accepted Uncharged = ((λ h. h), λ h. h)
 charges_accepted (ChargedBy s) = ((λ h. eqb-true (length s) 130 h.0), λ e. (eq-eqb (length s) 130 e, tt))
 
 -- as the code has it
-pub whole : (charged : Bool) (s : List ℕ) → AllPass (charges_tests (charging_by charged s)) → Whole charged s
-whole true s h e = eqb-true (length s) 130 h.0
-whole false s h e = absurd (true≢false (sym e))
+pub whole : (c : Option (Bor (List ℕ))) → AllPass (charges_tests (charging_of c)) → IsWhole c
+whole None h = tt
+whole (Some s) h = eqb-true (length s.now) 130 h.0
 
 pub charges_numbered : (c : Charging) → numbered (charges_tests c) ≡ true
 charges_numbered Uncharged = refl

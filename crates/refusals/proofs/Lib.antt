@@ -2,3 +2,4 @@
 pub mod FirstFailed
 pub mod Cause
 pub mod Lengths
+pub mod Numbers

@@ -2,3 +2,4 @@
 pub mod Request
 pub mod Refusal
 pub mod Cause
+pub mod Code

@@ -3,34 +3,72 @@
 
 ghost use Rattle.std.specs.Prelude.{[], ◌∷◌, ◌++◌, ◌≡◌};
 ghost use Rattle.machine.specs.Machine.{fit_with};
+ghost use Rattle.charges.specs.Code.{charging_of};
 ghost use Rattle.refusals.specs.Refusal.{first_failed, pages_up_to, ram_accepted, fit_test, steps_test, request_tests, lengths_tests};
-ghost use Rattle.charges.specs.Code.{charging_by};
+ghost use Rattle.refusals.specs.Code.{refusal_number, answer_number};
 
-use processor::Processor;
-use timer::Timer;
+use machine::State;
 
-// The numbers that a call answers, in the order of their tests.
-pub const ACCEPTED: u32 = 0;
+// In the order of their tests.
+#[derive(Clone, Copy, Debug, PartialEq, Eq)]
+pub enum Refusal {
+    RamLength,
+    RomLength,
+    BeltLength,
+    // Of a record, or of a buffer for one.
+    RecordLength,
+    KindByte,
+    // A register, an index or a bit that no machine has.
+    Unfit,
+    TooManySteps,
+    NoFrame,
+    ChargesLength,
+}
 
-pub const RAM_LENGTH: u32 = 1;
+// The number that a call for C answers.
+impl From<Refusal> for u32 {
+    ghost from_gives = { λ refusal n. n ≡ refusal_number refusal };
 
-pub const ROM_LENGTH: u32 = 2;
+    fn from(refusal: Refusal) -> u32 {
+        match refusal {
+            Refusal::RamLength => 1,
+            Refusal::RomLength => 2,
+            Refusal::BeltLength => 3,
+            Refusal::RecordLength => 4,
+            Refusal::KindByte => 5,
+            Refusal::Unfit => 6,
+            Refusal::TooManySteps => 7,
+            Refusal::NoFrame => 8,
+            Refusal::ChargesLength => 9,
+        }
+    }
+}
 
-pub const BELT_LENGTH: u32 = 3;
+// The same of an answer: 0 where the call is accepted.
+pub fn number(answer: Result<(), Refusal>) -> u32
+    ensures { result ≡ answer_number answer }
+{
+    match answer {
+        Ok(()) => 0,
+        Err(refusal) => refusal.into(),
+    }
+}
 
-// Of a record, or of a buffer for one.
-pub const RECORD_LENGTH: u32 = 4;
+// Whether an accepted exception ends the run.
+#[derive(Clone, Copy, Debug, PartialEq, Eq)]
+pub enum Kind {
+    Plain,
+    ToException,
+}
 
-pub const KIND_BYTE: u32 = 5;
-
-// A register, an index or a bit that no machine has.
-pub const UNFIT: u32 = 6;
-
-pub const TOO_MANY_STEPS: u32 = 7;
-
-pub const NO_FRAME: u32 = 8;
-
-pub const CHARGES_LENGTH: u32 = 9;
+// What a run is asked: its interrupt lines are held for all its steps, and a run without charges has no list of them.
+#[derive(Clone, Copy)]
+pub struct Request<'a> {
+    pub kind: Kind,
+    pub wanted: u64,
+    pub lines: u32,
+    pub charges: Option<&'a [u8]>,
+}
 
 const MOST_RAM: usize = 536_870_912;
 
@@ -52,67 +90,57 @@ pub fn ram_accepted(n: usize) -> bool
     whole_pages(n, MOST_RAM)
 }
 
-// The first of causes 1, 2 and 3 that holds, or 0.
-pub fn of_lengths(ram: usize, rom: usize, belt: usize) -> u32
-    ensures { result ≡ first_failed (lengths_tests ram rom belt) }
+// The first of causes 1, 2 and 3 that holds.
+pub fn of_lengths(ram: usize, rom: usize, belt: usize) -> Result<(), Refusal>
+    ensures { answer_number result ≡ first_failed (lengths_tests ram rom belt) }
 {
     if !ram_accepted(ram) {
-        return RAM_LENGTH;
+        return Err(Refusal::RamLength);
     }
     if !whole_pages(rom, MOST_ROM) {
-        return ROM_LENGTH;
+        return Err(Refusal::RomLength);
     }
     if belt != BELT {
-        return BELT_LENGTH;
+        return Err(Refusal::BeltLength);
     }
-    ACCEPTED
+    Ok(())
 }
 
-fn of_steps(wanted: u64) -> u32
-    ensures { result ≡ first_failed (steps_test wanted ∷ []) }
+fn of_steps(wanted: u64) -> Result<(), Refusal>
+    ensures { answer_number result ≡ first_failed (steps_test wanted ∷ []) }
 {
     if MOST_STEPS < wanted {
-        return TOO_MANY_STEPS;
+        return Err(Refusal::TooManySteps);
     }
-    ACCEPTED
+    Ok(())
 }
 
 // What is asked of a run, after all that is asked of its machine: causes 7 and 9.
-pub fn of_request(wanted: u64, charges: &[u8], charged: bool) -> u32
-    ensures { result ≡ first_failed (request_tests wanted (charging_by charged charges.now)) }
+pub fn of_request(request: Request) -> Result<(), Refusal>
+    ensures { answer_number result ≡ first_failed (request_tests request.entry.wanted (charging_of request.entry.charges)) }
 {
-    let steps = of_steps(wanted);
-    if steps != ACCEPTED {
-        return steps;
-    }
-    if charged {
+    of_steps(request.wanted)?;
+    if let Some(charges) = request.charges {
         if charges.len() != charges::LENGTH {
-            return CHARGES_LENGTH;
+            return Err(Refusal::ChargesLength);
         }
-        return ACCEPTED;
     }
-    ACCEPTED
+    Ok(())
 }
 
 pub fn of_run(
-    p: Processor,
-    timer: Timer,
+    state: State,
     ram: usize,
     rom: usize,
     belt: usize,
-    wanted: u64,
-    charges: &[u8],
-    charged: bool,
-) -> u32
-    ensures { result ≡ first_failed (lengths_tests ram rom belt
-        ++ (fit_test (fit_with p timer) ∷ request_tests wanted (charging_by charged charges.now))) }
+    request: Request,
+) -> Result<(), Refusal>
+    ensures { answer_number result ≡ first_failed (lengths_tests ram rom belt
+        ++ (fit_test (fit_with state.processor state.timer) ∷ request_tests request.entry.wanted (charging_of request.entry.charges))) }
 {
-    let lengths = of_lengths(ram, rom, belt);
-    if lengths != ACCEPTED {
-        return lengths;
+    of_lengths(ram, rom, belt)?;
+    if !state.is_fit() {
+        return Err(Refusal::Unfit);
     }
-    if !machine::is_fit_with(p, timer) {
-        return UNFIT;
-    }
-    of_request(wanted, charges, charged)
+    of_request(request)
 }

@@ -1,11 +1,11 @@
 -- A command of each kind, and the commands one after the other.
-use mathlib.Core.Path.{◌≡◌, refl, ap, ◌∙◌}
+use mathlib.Core.Path.{◌≡◌, ◌∙◌}
 use mathlib.Core.Bool.{true, false}
-use mathlib.Core.List.{List, [], ◌∷◌}
-use Prim.Native.Nat.{ℕ, suc, ◌+◌, ◌*◌, ◌-◌, ◌/◌, ◌%◌, ◌^◌, ◌≤◌, ◌<◌}
+use mathlib.Core.List.{List}
+use Prim.Native.Nat.{ℕ, suc, ◌+◌, ◌*◌, ◌-◌, ◌/◌, ◌%◌, ◌≤◌, ◌<◌}
 use native.Mathlib.Omega.{arith}
 use lib.Dec.{eqb}
-use lib.ListN.{length, get_or}
+use lib.ListN.{length}
 use borrow.Author.Tests.{ne_eqb}
 use Rattle.endian.specs.BigEndian.{read_at}
 use Rattle.machine.specs.Machine.{Machine}
@@ -54,41 +54,22 @@ module _ (x : Expected) (m : Machine) (c : Counts) (t : Tallies) (kind a b : ℕ
 
 -- ---- the commands of a part
 
--- the lengths of the lent slices
-abbrev lengths : Replay → List ℕ
-lengths r =
-    length r.expected.bytes ∷ length r.expected.memory.ram ∷ length r.expected.memory.rom ∷ length r.expected.memory.belt
-    ∷ length r.model.memory.ram ∷ length r.model.memory.rom ∷ length r.model.memory.belt
-    ∷ length r.tallies.opcodes ∷ length r.tallies.exceptions ∷ []
-
 -- what holds before command i of a part: of the replay that the part began with, and of the one that it has come to
-pub record Going (s : List ℕ) (began r : Replay) (i : ℕ) : Type 0 where
-  pub size : length s < 2 ^ 64
-  pub kept : lengths r ≡ lengths began
-  pub rest : replayed_from (length s / 8) s 0 began ≡ replayed_from (length s / 8 - i) s (i * 8) r
+abbrev pub Going : List ℕ → Replay → Replay → ℕ → Type 0
+Going s began r i = replayed_from (length s / 8) s 0 began ≡ replayed_from (length s / 8 - i) s (i * 8) r
 
-pub begun : (s : List ℕ) (r : Replay) → length s < 2 ^ 64 → Going s r r 0
-begun s r h = record { size = h; kept = refl; rest = ap (λ (k : ℕ). replayed_from k s 0 r) (omega arith) }
-
-module _ {s : List ℕ} {began r : Replay} {i : ℕ} (g : Going s began r i) where
-  pub in_part : i < length s / 8 → (i * 8 + 4 + 4 ≤ length s) × (length s < 2 ^ 64)
-  in_part h = (omega arith, g.size)
-
-  -- the nth slice keeps its length
-  pub nth_kept : (n : ℕ) → get_or (lengths r) n 0 ≡ get_or (lengths began) n 0
-  nth_kept n = ap (λ (l : List ℕ). get_or l n 0) g.kept
-
+module _ (s : List ℕ) (began r : Replay) (i : ℕ) (g : Going s began r i) where
   pub again : {q : Replay} {word number : ℕ} → i < length s / 8 → word ≡ read_at 4 s (i * 8) → number ≡ read_at 4 s (i * 8 + 4)
-      → q ≡ commanded r (word / 16777216) (word % 16777216) number → lengths q ≡ lengths r → Going s began q (i + 1)
+      → q ≡ commanded r (word / 16777216) (word % 16777216) number → Going s began q (i + 1)
   unfolding replayed_from commanded_at
-  again h e f c kept =
+  again h e f c =
       let left : length s / 8 - i ≡ suc (length s / 8 - (i + 1)) = omega arith in
       let next : i * 8 + 8 ≡ (i + 1) * 8 = omega arith in
-      record { size = g.size; kept = kept ∙ g.kept; rest = g.rest ∙ rw (left, ← next, c, e, f) }
+      g ∙ rw (left, ← next, c, e, f)
 
   pub part_judged : {d : Counts} → length s / 8 ≤ i → d ≡ judged false (eqb (length s % 8) 0) r.counts
       → replay r.expected r.model d r.tallies ≡ replayed s began
   unfolding replayed after_judging replayed_from
   part_judged h e =
       let none : length s / 8 - i ≡ 0 = omega arith in
-      rw (g.rest, none, e)
+      rw (g, none, e)

@@ -2,3 +2,4 @@
 pub mod StepLaws
 pub mod CommandLaws
 pub mod Mismatches
+pub mod StartLaws

@@ -3,16 +3,14 @@ use Rattle.std.specs.Prelude.{Bool, true, false, cond, List, ℕ, zero, suc, ◌
 use Rattle.words.specs.Logic.{both}
 use Rattle.endian.specs.BigEndian.{read_at}
 use Rattle.memory.specs.Lent.{Lent}
-use Rattle.timer.specs.declared.Timer.{Timer}
-use Rattle.processor.specs.declared.Processor.{Processor}
-use Rattle.machine.specs.Machine.{Machine, machine, before}
+use Rattle.machine.specs.Machine.{Machine, machine_of}
 use Rattle.record.specs.Calls.{read_refusal}
 use Rattle.replay.specs.Tally.{case_begun, step_made, end_read, judged}
-use Rattle.expected.specs.Expected.{Expected, expected_lent, expected_left, clear, patch_fits, patched, started_in}
+use Rattle.expected.specs.Expected.{Expected, expected, clear, patch_fits, patched, started_in}
 use Rattle.replay.specs.Agreement.{machine_after, step_agrees}
 use Rattle.replay.specs.declared.Counts.{Counts}
 use Rattle.replay.specs.declared.Progress.{Progress}
-use Rattle.replay.specs.Tallies.{Tallies, tallies_lent, tallies_left, step_tallied}
+use Rattle.replay.specs.Tallies.{Tallies, tallies, step_tallied}
 
 -- ---- the state of a replay
 
@@ -25,22 +23,10 @@ pub record Replay : Type 0 where
 abbrev pub replay : Expected → Machine → Counts → Tallies → Replay
 replay x m c t = record { expected = x; model = m; counts = c; tallies = t }
 
--- the processor and the timer that are kept, with other counts
-abbrev pub with_counts : Progress → Counts → Progress
-with_counts p c = record { processor = p.processor; timer = p.timer; counts = c }
-
--- the model's machine as a call left it, where the call may write the ROM
-abbrev pub machine_left : Processor → Timer → Lent → Lent → Lent → Machine
-machine_left p t ram rom belt = machine p t ram rom belt
-
--- the replay in slices lent to a call, at its entry and at its exit; the slices of the expected machine are named by an x
-abbrev pub replay_lent : Progress → Lent → Lent → Lent → Lent → Lent → Lent → Lent → Lent → Lent → Replay
-replay_lent p xrecord xram xrom xbelt ram rom belt opcodes exceptions =
-    replay (expected_lent xrecord xram xrom xbelt) (before p.processor p.timer ram rom belt) p.counts (tallies_lent opcodes exceptions)
-
-abbrev pub replay_left : Progress → Lent → Lent → Lent → Lent → Lent → Lent → Lent → Lent → Lent → Replay
-replay_left p xrecord xram xrom xbelt ram rom belt opcodes exceptions =
-    replay (expected_left xrecord xram xrom xbelt) (machine_left p.processor p.timer ram rom belt) p.counts (tallies_left opcodes exceptions)
+-- the replay in slices that a call was lent, or as it left them; the slices of the expected machine are named by an x
+abbrev pub replay_in : Progress → Lent → Lent → Lent → Lent → Lent → Lent → Lent → Lent → Lent → Replay
+replay_in p xrecord xram xrom xbelt ram rom belt opcodes exceptions =
+    replay (expected xrecord xram xrom xbelt) (machine_of p.state ram rom belt) p.counts (tallies opcodes exceptions)
 
 -- ---- a command
 

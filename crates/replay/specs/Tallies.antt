@@ -1,7 +1,6 @@
 -- The steps of a replay counted, by opcode and by exception.
 use Rattle.std.specs.Prelude.{cond, List, ℕ, eqb}
 use Rattle.words.specs.Identifiers.{no_exception}
-use Rattle.memory.specs.Lent.{Lent}
 use Rattle.access.specs.Reads.{read_from}
 use Rattle.look.specs.Look.{opcode_read}
 use Rattle.machine.specs.Machine.{Machine}
@@ -20,13 +19,6 @@ pub record Tallies : Type 0 where
 
 abbrev pub tallies : List ℕ → List ℕ → Tallies
 tallies opcodes exceptions = record { opcodes = opcodes; exceptions = exceptions }
-
--- in slices lent to a call, at its entry and at its exit
-abbrev pub tallies_lent : Lent → Lent → Tallies
-tallies_lent opcodes exceptions = tallies opcodes exceptions
-
-abbrev pub tallies_left : Lent → Lent → Tallies
-tallies_left opcodes exceptions = tallies opcodes exceptions
 
 -- a step with this EID, or `no_exception`, of the instruction with this opcode
 unfoldable pub tallied : Tallies → ℕ → ℕ → Tallies

@@ -5,14 +5,14 @@ mod model;
 mod tally;
 
 ghost use Rattle.std.specs.Prelude.{◌≡◌};
-ghost use Rattle.replay.specs.Replay.{with_counts, replay_lent, replay_left, commanded, replayed, finished};
+ghost use Rattle.replay.specs.Replay.{replay_in, commanded, replayed, finished};
 
-use processor::Processor;
-use timer::Timer;
+use expected::Expectation;
+use machine::State;
 
 // `turn` counts the steps of the present case, `bad` the commands that are refused. `firstcase` and `firststep` say where the first
 // mismatch was.
-#[derive(Clone, Copy)]
+#[derive(Clone, Copy, Debug, Default, PartialEq, Eq)]
 pub struct Counts {
     pub cases: u32,
     pub steps: u32,
@@ -33,26 +33,16 @@ const STEP: u32 = 7;
 const END: u32 = 8;
 
 // The model's processor and timer, and the counts.
-#[derive(Clone, Copy)]
+#[derive(Clone, Copy, Debug, PartialEq, Eq)]
 pub struct Progress {
-    pub processor: Processor,
-    pub timer: Timer,
+    pub state: State,
     pub counts: Counts,
 }
 
-impl Progress {
-    // The same processor and timer, with other counts.
-    fn counting(mut self, counts: Counts) -> Self
-        ensures { result ≡ with_counts self counts }
-    {
-        self.counts = counts;
-        self
-    }
-}
-
-// One command, as the definition has its kinds; what is none of the named ones is a patch, or refused.
+// One command, as the definition has its kinds; what is none of the named ones is a patch, or refused. A kind is a byte of the file, which an enum
+// would have matched twice.
 fn command(
-    progress: Progress,
+    progress: &mut Progress,
     xrecord: &mut [u8],
     xram: &mut [u8],
     xrom: &mut [u8],
@@ -65,47 +55,55 @@ fn command(
     kind: u32,
     a: u32,
     b: u32,
-) -> Progress
-    ensures { replay_left result xrecord.new xram.new xrom.new xbelt.new ram.new rom.new belt.new opcodes.new exceptions.new
-        ≡ commanded (replay_lent progress xrecord.old xram.old xrom.old xbelt.old ram.old rom.old belt.old opcodes.old exceptions.old) kind a b }
+)
+    ensures { replay_in progress.new xrecord.new xram.new xrom.new xbelt.new ram.new rom.new belt.new opcodes.new exceptions.new
+        ≡ commanded (replay_in progress.old xrecord.old xram.old xrom.old xbelt.old ram.old rom.old belt.old opcodes.old exceptions.old) kind a b }
 {
-    let counts = progress.counts;
-    if counts.ended {
-        return progress.counting(counts.judge(kind == STEP, false));
+    if progress.counts.ended {
+        progress.counts.judge(kind == STEP, false);
+        return;
     }
     match kind {
         CLEAR => {
             expected::clear(xrecord, xram, xrom, xbelt);
-            progress.counting(counts.begin_case())
+            progress.counts.begin_case();
         }
-        START => model::start(
-            counts,
-            ram,
-            rom,
-            belt,
-            &xrecord[..],
-            &xram[..],
-            &xrom[..],
-            &xbelt[..],
-        ),
-        STEP => model::step(
-            progress,
-            ram,
-            &rom[..],
-            belt,
-            a,
-            opcodes,
-            exceptions,
-            &xrecord[..],
-            &xram[..],
-            &xrom[..],
-            &xbelt[..],
-            b,
-        ),
-        END => progress.counting(counts.read_end().judge(false, counts.cases == b)),
+        START => {
+            let expectation = Expectation {
+                record: xrecord,
+                ram: xram,
+                rom: xrom,
+                belt: xbelt,
+            };
+            model::start(progress, ram, rom, belt, expectation);
+        }
+        STEP => {
+            let expectation = Expectation {
+                record: xrecord,
+                ram: xram,
+                rom: xrom,
+                belt: xbelt,
+            };
+            model::step(
+                progress,
+                ram,
+                rom,
+                belt,
+                a,
+                opcodes,
+                exceptions,
+                expectation,
+                b,
+            );
+        }
+        END => {
+            let whole = progress.counts.cases == b;
+            progress.counts.read_end();
+            progress.counts.judge(false, whole);
+        }
         _ => {
             let fits = expected::patch(xrecord, xram, xrom, xbelt, kind, a, b);
-            progress.counting(counts.judge(false, fits))
+            progress.counts.judge(false, fits);
         }
     }
 }
@@ -124,15 +122,14 @@ pub fn part(
     exceptions: &mut [u32],
     s: &[u8],
 ) -> Progress
-    ensures { replay_left result xrecord.new xram.new xrom.new xbelt.new ram.new rom.new belt.new opcodes.new exceptions.new
-        ≡ replayed s.now (replay_lent progress xrecord.old xram.old xrom.old xbelt.old ram.old rom.old belt.old opcodes.old exceptions.old) }
+    ensures { replay_in result xrecord.new xram.new xrom.new xbelt.new ram.new rom.new belt.new opcodes.new exceptions.new
+        ≡ replayed s.now (replay_in progress xrecord.old xram.old xrom.old xbelt.old ram.old rom.old belt.old opcodes.old exceptions.old) }
 {
-    let mut i = 0;
-    while i < s.len() / 8 {
-        let word = endian::read_word(s, i * 8);
-        let b = endian::read_word(s, i * 8 + 4);
-        progress = command(
-            progress,
+    for i in 0..s.len() / 8 {
+        let word = endian::read::<4>(s, i * 8);
+        let number = endian::read::<4>(s, i * 8 + 4);
+        command(
+            &mut progress,
             xrecord,
             xram,
             xrom,
@@ -144,17 +141,19 @@ pub fn part(
             exceptions,
             word / 0x100_0000,
             word % 0x100_0000,
-            b,
+            number,
         );
-        i += 1;
     }
-    let counts = progress.counts;
-    progress.counting(counts.judge(false, s.len() % 8 == 0))
+    progress.counts.judge(false, s.len() % 8 == 0);
+    progress
 }
 
 // After the last part.
-pub fn finish(counts: Counts) -> Counts
+#[tactic(auto, unfolding(crate::specs::Replay::finished))]
+pub fn finish(mut counts: Counts) -> Counts
     ensures { result ≡ finished counts }
 {
-    counts.judge(false, counts.ended)
+    let ended = counts.ended;
+    counts.judge(false, ended);
+    counts
 }

@@ -1,20 +1,18 @@
 // What a replay counts.
-ghost use Rattle.std.specs.Prelude.{cond, ◌≡◌};
+ghost use Rattle.std.specs.Prelude.{◌≡◌};
 ghost use Rattle.replay.specs.Tally.{raised, raised_at, at_zero, case_begun, step_made, end_read, failed, judged};
 
 use crate::Counts;
 
-const MOST: u32 = 0xFFFF_FFFF;
-
+#[tactic(auto, unfolding(crate::specs::Tally::raised))]
 pub fn raise(n: u32) -> u32
     ensures { result ≡ raised n }
 {
-    if n < MOST {
-        return n + 1;
-    }
-    n
+    n.saturating_add(1)
 }
 
+// By the index: with get_mut the proof did not close.
+#[tactic(auto, unfolding(crate::specs::Tally::raised_at))]
 pub fn raise_at(counts: &mut [u32], i: u32)
     ensures { counts.new ≡ raised_at counts.old i }
 {
@@ -24,72 +22,58 @@ pub fn raise_at(counts: &mut [u32], i: u32)
     }
 }
 
-fn choose(t: bool, x: u32, y: u32) -> u32
-    ensures { result ≡ cond t x y }
-{
-    if t {
-        return x;
-    }
-    y
-}
-
 impl Counts {
+    #[tactic(auto, unfolding(crate::specs::Tally::at_zero))]
     pub fn zero() -> Self
         ensures { result ≡ at_zero }
     {
-        Self {
-            cases: 0,
-            steps: 0,
-            turn: 0,
-            mismatches: 0,
-            bad: 0,
-            firstcase: 0,
-            firststep: 0,
-            ended: false,
-        }
+        Self::default()
     }
 
-    pub fn begin_case(mut self) -> Self
-        ensures { result ≡ case_begun self }
+    #[tactic(auto, unfolding(crate::specs::Tally::case_begun))]
+    pub fn begin_case(&mut self)
+        ensures { self.new ≡ case_begun self.old }
     {
         self.cases = raise(self.cases);
         self.turn = 0;
-        self
     }
 
-    pub fn make_step(mut self) -> Self
-        ensures { result ≡ step_made self }
+    #[tactic(auto, unfolding(crate::specs::Tally::step_made))]
+    pub fn make_step(&mut self)
+        ensures { self.new ≡ step_made self.old }
     {
         self.steps = raise(self.steps);
         self.turn = raise(self.turn);
-        self
     }
 
-    pub fn read_end(mut self) -> Self
-        ensures { result ≡ end_read self }
+    #[tactic(auto, unfolding(crate::specs::Tally::end_read))]
+    pub fn read_end(&mut self)
+        ensures { self.new ≡ end_read self.old }
     {
         self.ended = true;
-        self
     }
 
     // A mismatch: of a step, or of a bad command.
-    fn fail(mut self, step: bool) -> Self
-        ensures { result ≡ failed step self }
+    #[tactic(auto, unfolding(crate::specs::Tally::failed))]
+    fn fail(&mut self, step: bool)
+        ensures { self.new ≡ failed step self.old }
     {
-        let first = self.mismatches == 0;
-        self.firstcase = choose(first, self.cases, self.firstcase);
-        self.firststep = choose(first, self.turn, self.firststep);
-        self.bad = choose(step, self.bad, raise(self.bad));
+        if self.mismatches == 0 {
+            self.firstcase = self.cases;
+            self.firststep = self.turn;
+        }
+        if !step {
+            self.bad = raise(self.bad);
+        }
         self.mismatches = raise(self.mismatches);
-        self
     }
 
-    pub fn judge(self, step: bool, good: bool) -> Self
-        ensures { result ≡ judged step good self }
+    #[tactic(auto, unfolding(crate::specs::Tally::judged))]
+    pub fn judge(&mut self, step: bool, good: bool)
+        ensures { self.new ≡ judged step good self.old }
     {
-        if good {
-            return self;
+        if !good {
+            self.fail(step);
         }
-        self.fail(step)
     }
 }

@@ -23,18 +23,15 @@ use Rattle.refusals.proofs.FirstFailed.{joined, all_pass}
 use Rattle.charges.specs.Charges.{Charging, Uncharged, most_charged}
 use Rattle.refusals.specs.Request.{Request, request, without_charging}
 use Rattle.refusals.specs.Cause.{AllPass}
+use Rattle.refusals.specs.declared.Refusal.{Refusal}
+use Rattle.refusals.specs.Code.{refusal_number}
+use Rattle.refusals.proofs.Numbers.{never_accepted}
 use Rattle.refusals.proofs.Lengths.{charges_numbered, charges_last}
 use Rattle.run_loop.proofs.Charged.{sum_of, from_charge, from_bounded, from_uncharged}
 use Rattle.run_loop.specs.Run.{answer, Outcome, begun, steps_from, run_from}
 use Rattle.run_loop.proofs.Loop.{no_step}
 use Rattle.run_loop.proofs.Kept.{run_fit, run_timer_fits}
 use Rattle.run_calls.specs.Runs.{call_tests, call_refusal, Called, called, machine_in, recorded, call_steps, call_of}
-use Rattle.run_calls.specs.Code.{first_of}
-
--- the numbers of a refused call
-pub answers : (s : List ℕ) (m : Memory) {x y z w v r : ℕ} → (x ≡ r) × (y ≡ 0) × (z ≡ 32) × (w ≡ 33) × (v ≡ 0)
-    → called s m x y z w v ≡ called s m r 0 32 33 0
-answers s m e = rw (e.0, e.1, e.2, e.3, e.4)
 
 -- ---- an accepted call passes every test
 
@@ -68,59 +65,74 @@ module _ (s : List ℕ) (m : Memory) (q : Request) (accepted : call_refusal s m 
 
 -- ---- the tests of the code: of the lengths, of the record and of the request, and the first that refuses
 
-module _ (s : List ℕ) (m : Memory) (q : Request) {l r t number : ℕ}
-    (lengths : l ≡ first_failed (memory_tests m)) (read : r ≡ machine_refusal s) (asked : t ≡ first_failed (request_tests q.wanted q.charging))
-    (first : number ≡ first_of l (first_of r t)) where
-  is_number : number ≡ call_refusal s m q
-  unfolding first_of call_refusal machine_refusal
-  is_number =
+module _ (s : List ℕ) (m : Memory) (q : Request) where
+  by_parts : call_refusal s m q
+      ≡ cond (eqb (first_failed (memory_tests m)) 0)
+      (cond (eqb (machine_refusal s) 0) (first_failed (request_tests q.wanted q.charging)) (machine_refusal s)) (first_failed (memory_tests m))
+  unfolding call_refusal machine_refusal
+  by_parts =
       let last : List Test = request_tests q.wanted q.charging in
-      first ∙ rw (lengths, read, asked)
-      (sym (joined (memory_tests m) (machine_tests s ++ last) refl ∙ ap (first_of (first_failed (memory_tests m))) (joined (machine_tests s) last refl)))
+      joined (memory_tests m) (machine_tests s ++ last) refl
+      ∙ ap (λ (n : ℕ). cond (eqb (first_failed (memory_tests m)) 0) n (first_failed (memory_tests m))) (joined (machine_tests s) last refl)
 
-  pub refused_call : (number ≡ 0 → ⊥) → called s m number 0 32 33 0 ≡ call_of q s m
+  pub refused_call : {number : ℕ} → number ≡ call_refusal s m q → (number ≡ 0 → ⊥) → called s m number 0 32 33 0 ≡ call_of q s m
   unfolding call_of
-  refused_call h = rw (← is_number) (simp (ne_eqb number 0 h))
+  refused_call {number} f h = rw (← f) (simp (ne_eqb number 0 h))
 
-  module _ (accepted : number ≡ 0) where
-    none : call_refusal s m q ≡ 0
-    none = sym is_number ∙ accepted
+  by_refusal : (e : Refusal) → refusal_number e ≡ call_refusal s m q → called s m (refusal_number e) 0 32 33 0 ≡ call_of q s m
+  by_refusal e f = refused_call f (never_accepted e)
 
-    pub record_size : length s ≡ 424
-    record_size = size s m q none
+  pub lengths_refused : (e : Refusal) → refusal_number e ≡ first_failed (memory_tests m) → called s m (refusal_number e) 0 32 33 0 ≡ call_of q s m
+  lengths_refused e l = by_refusal e (sym (by_parts ∙ rw (← l) (simp (ne_eqb (refusal_number e) 0 (never_accepted e)))))
 
-    pub steps_within : q.wanted ≤ 1000000
-    steps_within = within s m q none
+  module _ (l : 0 ≡ first_failed (memory_tests m)) where
+    pub record_refused : (e : Refusal) → refusal_number e ≡ machine_refusal s → called s m (refusal_number e) 0 32 33 0 ≡ call_of q s m
+    record_refused e r = by_refusal e (sym (by_parts ∙ rw (← l, ← r) (simp (ne_eqb (refusal_number e) 0 (never_accepted e)))))
 
-    pub charges_pass : AllPass (charges_tests q.charging)
-    charges_pass = charges s m q none
+    module _ (r : 0 ≡ machine_refusal s) where
+      pub request_refused : (e : Refusal) → refusal_number e ≡ first_failed (request_tests q.wanted q.charging)
+          → called s m (refusal_number e) 0 32 33 0 ≡ call_of q s m
+      request_refused e t = by_refusal e (sym (by_parts ∙ rw (← l, ← r, ← t) refl))
 
-    module _ {p : Processor} (f : p ≡ processor_unless (machine_refusal s) s) {u : Timer} (g : u ≡ timer_unless (machine_refusal s) s)
-        {o : Outcome} (h : o ≡ run_from q q.wanted (begun (record { processor = p; timer = u; memory = m }) 0)) where
-      -- the machine that was read is the record's
-      same : o ≡ run_from q q.wanted (begun (machine_in s m) 0)
-      same =
-          let number = machine_accepted s m q none in
-          let processor_read : p ≡ processor_of s = f ∙ ap (λ (n : ℕ). processor_unless n s) number in
-          let timer_read_lem : u ≡ timer_of s = g ∙ ap (λ (n : ℕ). timer_unless n s) number in
-          h ∙ (λ i. run_from q q.wanted (begun (record { processor = processor_read i; timer = timer_read_lem i; memory = m }) 0))
+      module _ (t : 0 ≡ first_failed (request_tests q.wanted q.charging)) where
+        none : call_refusal s m q ≡ 0
+        none = by_parts ∙ rw (← l, ← r, ← t) refl
 
-      -- the outcome, with the buffer as it was written
-      pub call_written : {b : List ℕ} → b ≡ record_of o.machine.processor o.machine.timer
-          → ◌≡◌ {A = Called} (record { buffer = b; memory = o.machine.memory; answer = o.answer }) (call_of q s m)
-      unfolding call_of
-      call_written e = (λ i. record { buffer = e i; memory = o.machine.memory; answer = o.answer }) ∙ rw none (ap recorded same)
+        pub record_size : length s ≡ 424
+        record_size = size s m q none
 
-      -- the machine after it can be written
-      pub run_index : o.machine.processor.replacement < 256
-      run_index =
-          let end = (run_fit q q.wanted (begun (machine_in s m) 0) (read_fits s m q none)).upto in
-          omega (arith, end, ap (λ (q : Outcome). q.machine.processor.replacement) same)
+        pub steps_within : q.wanted ≤ 1000000
+        steps_within = within s m q none
 
-      pub run_control : o.machine.timer.control < 256
-      run_control =
-          let end = run_timer_fits q q.wanted (begun (machine_in s m) 0) (timer_fits s m q none) in
-          omega (arith, end, ap (λ (q : Outcome). q.machine.timer.control) same)
+        pub charges_pass : AllPass (charges_tests q.charging)
+        charges_pass = charges s m q none
+
+        module _ {p : Processor} (f : p ≡ processor_unless (machine_refusal s) s) {u : Timer} (g : u ≡ timer_unless (machine_refusal s) s)
+            {o : Outcome} (h : o ≡ run_from q q.wanted (begun (record { processor = p; timer = u; memory = m }) 0)) where
+          -- the machine that was read is the record's
+          same : o ≡ run_from q q.wanted (begun (machine_in s m) 0)
+          same =
+              let number = machine_accepted s m q none in
+              let processor_read : p ≡ processor_of s = f ∙ ap (λ (n : ℕ). processor_unless n s) number in
+              let timer_read_lem : u ≡ timer_of s = g ∙ ap (λ (n : ℕ). timer_unless n s) number in
+              h ∙ (λ i. run_from q q.wanted (begun (record { processor = processor_read i; timer = timer_read_lem i; memory = m }) 0))
+
+          -- the outcome, with the buffer as it was written
+          pub call_written : {b : List ℕ} → b ≡ record_of o.machine.processor o.machine.timer
+              → ◌≡◌ {A = Called} (record { buffer = b; memory = o.machine.memory; answer = o.answer }) (call_of q s m)
+          unfolding call_of
+          call_written e = (λ i. record { buffer = e i; memory = o.machine.memory; answer = o.answer }) ∙ rw none (ap recorded same)
+
+          -- the machine after it can be written
+          pub run_index : o.machine.processor.replacement < 256
+          run_index =
+              let end = (run_fit q q.wanted (begun (machine_in s m) 0) (read_fits s m q none)).upto in
+              omega (arith, end, ap (λ (q : Outcome). q.machine.processor.replacement) same)
+
+          pub run_control : o.machine.timer.control < 256
+          run_control =
+              let end = run_timer_fits q q.wanted (begun (machine_in s m) 0) (timer_fits s m q none) in
+              omega (arith, end, ap (λ (q : Outcome). q.machine.timer.control) same)
 
 -- ---- zero steps change nothing
 

@@ -1,6 +1,10 @@
--- What the code's own functions answer; no definition of a call names it.
-use Rattle.std.specs.Prelude.{cond, ℕ, eqb}
+-- A helper of the code's contracts: what a call comes to, with the Result that it answers. No definition names it.
+use Rattle.std.specs.Prelude.{List, ℕ, Result}
+use Rattle.memory.specs.Map.{Memory}
+use Rattle.refusals.specs.declared.Refusal.{Refusal}
+use Rattle.run_loop.specs.declared.Ran.{Ran}
+use Rattle.run_loop.specs.Code.{answer_of}
+use Rattle.run_calls.specs.Runs.{Called}
 
--- the first of two refusals that is not 0, or 0
-unfoldable pub first_of : ℕ → ℕ → ℕ
-first_of a b = cond (eqb a 0) b a
+abbrev pub called_as : List ℕ → Memory → Result Ran Refusal → Called
+called_as buffer m made = record { buffer = buffer; memory = m; answer = answer_of made }

@@ -2,20 +2,22 @@
 #![tactic(auto)]
 
 ghost use Rattle.std.specs.Prelude.{◌≡◌};
-ghost use Rattle.words.specs.Identifiers.{no_exception};
-ghost use Rattle.tlb.specs.Lookup.{no_slot};
 ghost use Rattle.memory.specs.Lent.{lent, left};
-ghost use Rattle.run_calls.specs.Runs.{called, call_of};
-ghost use Rattle.run_calls.specs.Code.{first_of};
 ghost use Rattle.charges.specs.Charges.{Uncharged};
-ghost use Rattle.charges.specs.Code.{charging_by};
 ghost use Rattle.refusals.specs.Request.{request};
+ghost use Rattle.refusals.specs.Code.{kind_of, asked};
+ghost use Rattle.run_loop.specs.Run.{answer};
+ghost use Rattle.run_loop.specs.Code.{answer_of};
+ghost use Rattle.run_calls.specs.Runs.{called, call_of};
+ghost use Rattle.run_calls.specs.Code.{called_as};
 
 use processor::Processor;
+use refusals::{Kind, Refusal, Request};
+use run_loop::Ran;
 
 // struct eco32_answer
 #[repr(C)]
-#[derive(Clone, Copy)]
+#[derive(Clone, Copy, Debug, PartialEq, Eq)]
 pub struct Answer {
     pub refusal: u32,
     pub steps: u32,
@@ -25,7 +27,7 @@ pub struct Answer {
 
 // struct eco32_charged
 #[repr(C)]
-#[derive(Clone, Copy)]
+#[derive(Clone, Copy, Debug, PartialEq, Eq)]
 pub struct Charged {
     pub refusal: u32,
     pub steps: u32,
@@ -34,93 +36,82 @@ pub struct Charged {
     pub charge: u64,
 }
 
-fn refused(number: u32) -> Charged
-    ensures { (result.refusal ≡ number) × (result.steps ≡ 0) × (result.eid ≡ no_exception) × (result.slot ≡ no_slot) × (result.charge ≡ 0) }
-{
-    Charged {
-        refusal: number,
-        steps: 0,
-        eid: Processor::NO_EXCEPTION,
-        slot: tlb::NO_SLOT,
-        charge: 0,
+// The numbers that C gets, of a refused run too.
+impl From<Result<Ran, Refusal>> for Charged {
+    ghost from_gives = { λ made c. answer c.refusal c.steps c.eid c.slot c.charge ≡ answer_of made };
+
+    fn from(made: Result<Ran, Refusal>) -> Charged {
+        match made {
+            Ok(ran) => Charged {
+                refusal: 0,
+                steps: ran.steps,
+                eid: ran.eid,
+                slot: ran.slot,
+                charge: ran.charge,
+            },
+            Err(refusal) => Charged {
+                refusal: refusal.into(),
+                steps: 0,
+                eid: Processor::NO_EXCEPTION,
+                slot: tlb::NO_SLOT,
+                charge: 0,
+            },
+        }
     }
 }
 
-// The first of three refusals that is not 0, or 0.
-fn first_of(a: u32, b: u32, c: u32) -> u32
-    ensures { result ≡ first_of a (first_of b c) }
-{
-    if a != refusals::ACCEPTED {
-        return a;
+// The same without the charge.
+impl From<Charged> for Answer {
+    ghost from_gives = { λ c a. answer a.refusal a.steps a.eid a.slot c.charge ≡ answer c.refusal c.steps c.eid c.slot c.charge };
+
+    fn from(charged: Charged) -> Answer {
+        Answer {
+            refusal: charged.refusal,
+            steps: charged.steps,
+            eid: charged.eid,
+            slot: charged.slot,
+        }
     }
-    if b != refusals::ACCEPTED {
-        return b;
-    }
-    c
 }
 
-// A run of either kind: causes 1, 2 and 3, then 4, 5 and 6 of the record, then 7, and 9 where it is charged.
+// A run of either kind: causes 1, 2 and 3, then 4, 5 and 6 of the record, then 7, and 9 where it is charged. RAM, ROM and belt are parameters as of
+// `run_loop::advance`.
+#[tactic(auto, using(crate::proofs::CallLaws::lengths_refused, crate::proofs::CallLaws::record_refused, crate::proofs::CallLaws::request_refused))]
 pub fn call(
     machine: &mut [u8],
     ram: &mut [u8],
     rom: &[u8],
     belt: &mut [u8],
-    charges: &[u8],
-    charged: bool,
-    wanted: u64,
-    lines: u16,
-    kind: bool,
-) -> Charged
-    ensures { called machine.new (left ram.new rom.now belt.new) result.refusal result.steps result.eid result.slot result.charge
-        ≡ call_of (request kind wanted lines (charging_by charged charges.now)) machine.old (lent ram.old rom.now belt.old) }
+    request: Request,
+) -> Result<Ran, Refusal>
+    ensures { called_as machine.new (left ram.new rom.now belt.new) result ≡ call_of (asked request.entry) machine.old (lent ram.old rom.now belt.old) }
 {
-    let lengths = refusals::of_lengths(ram.len(), rom.len(), belt.len());
-    let reading = record::read_machine(&machine[..]);
-    let asked = refusals::of_request(wanted, charges, charged);
-    let number = first_of(lengths, reading.refusal, asked);
-    if number != refusals::ACCEPTED {
-        return refused(number);
-    }
-    let ran = run_loop::advance(
-        reading.processor,
-        reading.timer,
-        ram,
-        rom,
-        belt,
-        charges,
-        charged,
-        wanted as u32,
-        lines as u32,
-        kind,
-    );
-    record_layout::put(ran.processor, ran.timer, machine);
-    Charged {
-        refusal: ran.refusal,
-        steps: ran.steps,
-        eid: ran.eid,
-        slot: ran.slot,
-        charge: ran.charge,
-    }
+    refusals::of_lengths(ram.len(), rom.len(), belt.len())?;
+    let state = record::read_machine(&machine[..])?;
+    refusals::of_request(request)?;
+    let ran = run_loop::advance(state, ram, rom, belt, request);
+    record_layout::put(ran.state, machine);
+    Ok(ran)
 }
 
-// The same without charges.
+// A run without charges. It has no request, so that the compiler sees that none of its callers has a list (docs/SPEED.md).
 pub fn uncharged(
     machine: &mut [u8],
     ram: &mut [u8],
     rom: &[u8],
     belt: &mut [u8],
+    kind: Kind,
     wanted: u64,
     lines: u16,
-    kind: bool,
 ) -> Answer
     ensures { called machine.new (left ram.new rom.now belt.new) result.refusal result.steps result.eid result.slot 0
-        ≡ call_of (request kind wanted lines Uncharged) machine.old (lent ram.old rom.now belt.old) }
+        ≡ call_of (request (kind_of kind) wanted lines Uncharged) machine.old (lent ram.old rom.now belt.old) }
 {
-    let made = call(machine, ram, rom, belt, rom, false, wanted, lines, kind);
-    Answer {
-        refusal: made.refusal,
-        steps: made.steps,
-        eid: made.eid,
-        slot: made.slot,
-    }
+    let asked = Request {
+        kind,
+        wanted,
+        lines: lines as u32,
+        charges: None,
+    };
+    Charged::from(call(machine, ram, rom, belt, asked)).into()
 }

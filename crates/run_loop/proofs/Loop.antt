@@ -6,7 +6,7 @@ use Prim.Native.Nat.{ℕ, suc, ◌+◌, ◌-◌, ◌≤◌, ◌<◌}
 use native.Mathlib.Numerals.{add-one}
 use native.Mathlib.Omega.{arith}
 use lib.Dec.{eqb}
-use borrow.Author.Tests.{lt-ltb, le-ltb, eqb-true, eqb-false}
+use borrow.Author.Tests.{lt-ltb, eqb-true}
 use Rattle.words.proofs.Counts.{left, over}
 use Rattle.machine.specs.Machine.{Machine}
 use Rattle.step.specs.Step.{step_of}
@@ -15,16 +15,7 @@ use Rattle.charges.specs.Charges.{charge_of}
 use Rattle.refusals.specs.Request.{Request}
 use Rattle.run_loop.specs.Run.{Outcome, outcome, ends, steps_from, steps_of, counted, counted_all, begun, run_of, run_from}
 
--- ---- whether a step is the last
-
-pub plain_goes_on : (kind : Bool) (eid : ℕ) → kind ≡ false → ends kind eid ≡ false
-unfolding ends
-plain_goes_on kind eid e = rw e
-
-pub none_goes_on : (kind : Bool) → ends kind 32 ≡ false
-unfolding ends
-none_goes_on true = le-ltb 32 32 (omega arith)
-none_goes_on false = refl
+-- ---- an exception is the last step of a run to exception
 
 pub exception_ends : (kind : Bool) (eid : ℕ) → kind ≡ true → eid < 32 → ends kind eid ≡ true
 unfolding ends
@@ -66,26 +57,6 @@ run_is q m = go (eqb r 0) refl
 
 -- ---- the turns
 
-pub one_less : (n i : ℕ) → i < n → n - (i + 1) < n - i
-one_less n i h = omega arith
-
--- the slot of an outcome counts where no step follows; the loop keeps it for the step that is the last of those wanted
-any_slot : (q : Request) (n : ℕ) (m : Machine) (made i j total : ℕ)
-    → run_from q (suc n) (outcome m 0 made 32 i total) ≡ run_from q (suc n) (outcome m 0 made 32 j total)
-unfolding run_from steps_from counted_all
-any_slot q n m made i j total = refl
-
-last_slot : (q : Request) (made : ℕ) (m : Machine) (slot total : ℕ) → made ≤ q.wanted → run_from q (q.wanted - made) (outcome m 0 made 32 slot total)
-    ≡ run_from q (q.wanted - made) (outcome m 0 made 32 (cond (eqb made q.wanted) slot 33) total)
-last_slot q made m slot total h = go (eqb made q.wanted) refl
-  where
-    go : (t : Bool) → eqb made q.wanted ≡ t
-        → run_from q (q.wanted - made) (outcome m 0 made 32 slot total) ≡ run_from q (q.wanted - made) (outcome m 0 made 32 (cond t slot 33) total)
-    go true e = refl
-    go false e =
-        let more : made < q.wanted = let other = eqb-false made q.wanted e in omega arith in
-        rw (left q.wanted made more) (any_slot q (q.wanted - (made + 1)) m made slot 33 total)
-
 module _ (q : Request) (made : ℕ) (m : Machine) where
   module _ (slot total : ℕ) (n : Machine) (eid told cost : ℕ) (e : n ≡ (step_of m q.lines).machine) (f : eid ≡ (step_of m q.lines).event.eid)
       (g : told ≡ (step_of m q.lines).event.slot) (h : cost ≡ total + charge_of q.charging (step_of m q.lines).event.opcode)
@@ -96,8 +67,8 @@ module _ (q : Request) (made : ℕ) (m : Machine) where
     turn = rw (left q.wanted made more, add-one made, e, f, g, h) (first_step q (q.wanted - suc made) (outcome m 0 made 32 slot total))
 
     pub run_more : ends q.kind eid ≡ false → run_from q (q.wanted - made) (outcome m 0 made 32 slot total)
-        ≡ run_from q (q.wanted - (made + 1)) (outcome n 0 (made + 1) 32 (cond (eqb (made + 1) q.wanted) told 33) cost)
-    run_more on = turn ∙ simp on (last_slot q (made + 1) n told cost (omega arith))
+        ≡ run_from q (q.wanted - (made + 1)) (outcome n 0 (made + 1) 32 told cost)
+    run_more on = turn ∙ simp on
 
     pub run_stop : ends q.kind eid ≡ true → run_from q (q.wanted - made) (outcome m 0 made 32 slot total) ≡ outcome n 0 (made + 1) eid told cost
     run_stop last = turn ∙ simp last

@@ -1,2 +1,3 @@
--- The definitions of `run_loop`.
+-- The definitions of `run_loop`, in the order to read them.
 pub mod Run
+pub mod Code

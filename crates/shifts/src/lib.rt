@@ -4,12 +4,14 @@
 ghost use Rattle.std.specs.Prelude.{◌≡◌};
 ghost use Rattle.shifts.specs.Shifts.{shift_left, shift_right, shift_arithmetic, load_high};
 
+#[tactic(auto, unfolding(crate::specs::Shifts::shift_left))]
 pub fn shift_left(x: u32, y: u32) -> u32
     ensures { result ≡ shift_left x y }
 {
     x << (y % 32)
 }
 
+#[tactic(auto, unfolding(crate::specs::Shifts::shift_right))]
 pub fn shift_right(x: u32, y: u32) -> u32
     ensures { result ≡ shift_right x y }
 {
@@ -19,13 +21,10 @@ pub fn shift_right(x: u32, y: u32) -> u32
 pub fn shift_arithmetic(x: u32, y: u32) -> u32
     ensures { result ≡ shift_arithmetic x y }
 {
-    if x < 0x8000_0000 {
-        shift_right(x, y)
-    } else {
-        0xFFFF_FFFF - shift_right(0xFFFF_FFFF - x, y)
-    }
+    (x.cast_signed() >> (y % 32)).cast_unsigned()
 }
 
+#[tactic(auto, unfolding(crate::specs::Shifts::load_high))]
 pub fn load_high(y: u32) -> u32
     ensures { result ≡ load_high y }
 {

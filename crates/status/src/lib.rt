@@ -4,6 +4,7 @@
 ghost use Rattle.std.specs.Prelude.{◌≡◌};
 ghost use Rattle.status.specs.Psw.{user_mode, pushed, popped};
 
+#[tactic(auto, unfolding(crate::specs::Psw::user_mode, crate::specs::Psw::user_current))]
 pub fn is_user_mode(psw: u32) -> bool
     ensures { result ≡ user_mode psw }
 {
@@ -11,6 +12,7 @@ pub fn is_user_mode(psw: u32) -> bool
 }
 
 // 0 pushed on both stacks, and the identifier set: each pair of bits moves down by one.
+#[tactic(auto, using(crate::proofs::PswLaws::push_code))]
 pub fn push(psw: u32, eid: u32) -> u32
     ensures { result ≡ pushed psw eid }
 {
@@ -22,6 +24,7 @@ pub fn push(psw: u32, eid: u32) -> u32
 }
 
 // Both stacks popped: each pair of bits moves up by one, and the old bit stays.
+#[tactic(auto, using(crate::proofs::PswLaws::pop_code))]
 pub fn pop(psw: u32) -> u32
     ensures { result ≡ popped psw }
 {

@@ -15,8 +15,7 @@ use Rattle.status.proofs.PswLaws.{Fields, fields_of, pushed_fields_lem}
 use Rattle.instructions.specs.Operands.{Surroundings}
 use Rattle.access.specs.Reads.{read_from}
 use Rattle.instructions.specs.Action.{Action, Exception}
-use Rattle.access.specs.declared.Read.{Read}
-use Rattle.access.specs.declared.Read.TheVariants.{Value, Fault}
+use Rattle.access.specs.Read.{Read, Value, Fault}
 use Rattle.decode.proofs.Named.{Named, NamedRead, read_named}
 use Rattle.decode.proofs.Outcomes.{executed_named}
 use Rattle.timer.specs.Timer.{lines_with}

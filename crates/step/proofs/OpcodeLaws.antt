@@ -13,8 +13,7 @@ use Rattle.look.specs.Interrupt.{channel}
 use Rattle.instructions.specs.Operands.{Meaning, Surroundings, Operands, simple, illegal, opcode_of}
 use Rattle.instructions.specs.Action.{Action, Write, Store, System, Exception}
 use Rattle.access.specs.Reads.{read_from}
-use Rattle.access.specs.declared.Read.{Read}
-use Rattle.access.specs.declared.Read.TheVariants.{Value, Fault}
+use Rattle.access.specs.Read.{Read, Value, Fault}
 use Rattle.compute.specs.Compute.{computations}
 use Rattle.control.specs.Control.{controls}
 use Rattle.transfer.specs.Transfer.{transfers}

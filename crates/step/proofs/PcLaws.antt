@@ -13,8 +13,7 @@ use Rattle.compute.specs.Compute.{computations}
 use Rattle.compute.proofs.Results.{Computed, Computes, every_computes}
 use Rattle.access.specs.Reads.{read_from}
 use Rattle.transfer.specs.Transfer.{address_of, landed, load}
-use Rattle.access.specs.declared.Read.{Read}
-use Rattle.access.specs.declared.Read.TheVariants.{Value, Fault}
+use Rattle.access.specs.Read.{Read, Value, Fault}
 use Rattle.instructions.specs.Action.{Action, Write, Store, System, Exception, SystemInstruction, Rfx, Mvfs, Mvts, Tbs, Tbwr, Tbri, Tbwi}
 use Rattle.words.proofs.Every.{every_at}
 use Rattle.actions.specs.Actions.{system_done, processor_after}

@@ -14,8 +14,7 @@ use Rattle.instructions.specs.Operands.{Surroundings, Operands, opcode_of}
 use Rattle.instructions.specs.Action.{Action, Write, Store, System, Exception}
 use Rattle.access.specs.Reads.{read_from, read_value}
 use Rattle.access.proofs.Forgotten.{reslotted}
-use Rattle.access.specs.declared.Read.{Read}
-use Rattle.access.specs.declared.Read.TheVariants.{Value, Fault}
+use Rattle.access.specs.Read.{Read, Value, Fault}
 use Rattle.transfer.specs.Transfer.{address_of}
 use Rattle.decode.specs.Table.{executed}
 use Rattle.decode.proofs.Accesses.{Accessed, AccessFault, Accesses, Quiet, executed_accesses, executed_quiet}

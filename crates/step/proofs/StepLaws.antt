@@ -7,8 +7,7 @@ use Rattle.timer.specs.Timer.{lines_with}
 use Rattle.processor.specs.Exception.{entered}
 use Rattle.look.specs.Interrupt.{channel}
 use Rattle.access.specs.Reads.{read_from, read_eid}
-use Rattle.access.specs.declared.Read.{Read}
-use Rattle.access.specs.declared.Read.TheVariants.{Value, Fault}
+use Rattle.access.specs.Read.{Read, Value, Fault}
 use Rattle.instructions.specs.Action.{Exception}
 use Rattle.machine.specs.Machine.{Machine}
 use Rattle.look.specs.Look.{decoded, look_from}

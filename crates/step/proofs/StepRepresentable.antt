@@ -16,8 +16,7 @@ use Rattle.look.specs.Interrupt.{channel}
 use Rattle.instructions.specs.Operands.{field_x, field_y}
 use Rattle.access.specs.Reads.{read_from}
 use Rattle.instructions.specs.Action.{Action, Write, Store, System, Exception, SystemInstruction, Rfx, Mvfs, Mvts, Tbs, Tbwr, Tbri, Tbwi}
-use Rattle.access.specs.declared.Read.{Read}
-use Rattle.access.specs.declared.Read.TheVariants.{Value, Fault}
+use Rattle.access.specs.Read.{Read, Value, Fault}
 use Rattle.instructions.proofs.Words.{Words}
 use Rattle.decode.proofs.Small.{Small, SmallSystem}
 use Rattle.decode.proofs.Outcomes.{executed_small}

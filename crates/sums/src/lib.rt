@@ -4,16 +4,18 @@
 ghost use Rattle.std.specs.Prelude.{◌≡◌};
 ghost use Rattle.sums.specs.Sums.{sum, difference, signed_product, unsigned_product};
 
+#[tactic(auto, unfolding(crate::specs::Sums::sum, words::specs::Numbers::truncate))]
 pub fn add(x: u32, y: u32) -> u32
     ensures { result ≡ sum x y }
 {
-    std::num::wrapping_add_u32(x, y)
+    x.wrapping_add(y)
 }
 
+#[tactic(auto, unfolding(crate::specs::Sums::difference, words::specs::Numbers::truncate))]
 pub fn subtract(x: u32, y: u32) -> u32
     ensures { result ≡ difference x y }
 {
-    std::num::wrapping_sub_u32(x, y)
+    x.wrapping_sub(y)
 }
 
 // The low 32 bits of a product are the same for both readings of its factors.
@@ -21,5 +23,5 @@ pub fn multiply(x: u32, y: u32) -> u32
     ensures unsigned { result ≡ unsigned_product x y }
     ensures signed { result ≡ signed_product x y }
 {
-    ((x as u64) * (y as u64) % 0x1_0000_0000) as u32
+    x.wrapping_mul(y)
 }

@@ -1,12 +1,12 @@
 // The board's timer (manual, chapter 5, section 4; document 02, job 1). One step of the machine is one tick.
-// Each method takes the timer by value; a changed one is handed back whole.
+// `write` and `tick` change the timer in place; the other methods take it by value.
 #![tactic(auto)]
 
 ghost use Rattle.std.specs.Prelude.{◌≡◌};
 ghost use Rattle.timer.specs.Timer.{timer_at_reset, raised, timer_fit, register_read, register_written, ticked, lines_with};
 
 // Bit 0 of control is the wrap-around flag, bit 1 the interrupt enable.
-#[derive(Clone, Copy)]
+#[derive(Clone, Copy, Debug, PartialEq, Eq)]
 pub struct Timer {
     pub divisor: u32,
     pub counter: u32,
@@ -22,6 +22,7 @@ impl Timer {
     // Channel 14 in a word of interrupt lines.
     pub const LINE: u32 = 0x4000;
 
+    #[tactic(auto, unfolding(crate::specs::Timer::timer_at_reset))]
     pub fn reset() -> Self
         ensures { result ≡ timer_at_reset }
     {
@@ -32,6 +33,7 @@ impl Timer {
         }
     }
 
+    #[tactic(auto, unfolding(crate::specs::Timer::timer_fit))]
     pub fn is_fit(self) -> bool
         ensures { result ≡ timer_fit self }
     {
@@ -39,54 +41,47 @@ impl Timer {
     }
 
     // The word of the register at an offset.
+    #[tactic(auto, unfolding(crate::specs::Timer::register_read))]
     pub fn read(self, at: u32) -> u32
         ensures { result ≡ register_read self at }
     {
-        if at == Self::CONTROL {
-            return self.control;
+        match at {
+            Self::CONTROL => self.control,
+            _ => self.divisor,
         }
-        self.divisor
     }
 
     // A word to the register at an offset.
-    pub fn write(self, at: u32, value: u32) -> Self
-        ensures { result ≡ register_written self at value }
+    #[tactic(auto, unfolding(crate::specs::Timer::register_written))]
+    pub fn write(&mut self, at: u32, value: u32)
+        ensures { self.new ≡ register_written self.old at value }
     {
         if at == Self::CONTROL {
-            return Self {
-                divisor: self.divisor,
-                counter: self.counter,
-                control: value % 4,
-            };
-        }
-        Self {
-            divisor: value,
-            counter: value,
-            control: self.control,
+            self.control = value % 4;
+        } else {
+            self.divisor = value;
+            self.counter = value;
         }
     }
 
-    pub fn tick(self) -> Self
-        ensures { result ≡ ticked self }
+    // With divisor 0 nothing moves.
+    #[tactic(auto, unfolding(crate::specs::Timer::ticked))]
+    pub fn tick(&mut self)
+        ensures { self.new ≡ ticked self.old }
     {
         if self.divisor == 0 {
-            return self;
+            return;
         }
         if self.counter <= 1 {
-            return Self {
-                divisor: self.divisor,
-                counter: self.divisor,
-                control: self.control / 2 * 2 + 1,
-            };
-        }
-        Self {
-            divisor: self.divisor,
-            counter: self.counter - 1,
-            control: self.control,
+            self.counter = self.divisor;
+            self.control = self.control / 2 * 2 + 1;
+        } else {
+            self.counter -= 1;
         }
     }
 
     // Whether flag and enable are set.
+    #[tactic(auto, unfolding(crate::specs::Timer::raised))]
     pub fn raised(self) -> bool
         ensures { result ≡ raised self }
     {
@@ -94,12 +89,14 @@ impl Timer {
     }
 
     // The host's interrupt lines with the timer's.
+    #[tactic(auto, unfolding(crate::specs::Timer::lines_with))]
     pub fn lines(self, lines: u32) -> u32
         ensures { result ≡ lines_with self lines }
     {
         if self.raised() {
-            return lines | Self::LINE;
+            lines | Self::LINE
+        } else {
+            lines
         }
-        lines
     }
 }

@@ -1,5 +1,4 @@
 -- The laws of `tlb`.
 pub mod Sizes
 pub mod Replacement
-pub mod Loop
 pub mod Lowest

@@ -6,8 +6,10 @@ use Prim.Native.Nat.{ℕ, zero, suc, ◌+◌, ◌≤◌, ◌<◌}
 use native.Mathlib.Nat.{zero-add, add-zero, add-suc, suc-add}
 use native.Mathlib.Omega.{arith}
 use lib.Dec.{eqb}
-use lib.ListN.{get_or}
+use lib.ListN.{get_or, length}
 use borrow.Author.Tests.{eqb-true, eqb-false, eq-eqb, ne_eqb}
+use Rattle.std.proofs.Common.{Option, Some, None, MatchOption, unwrap_or}
+use Rattle.std.specs.List.{AllWithin, HoldsAt}
 use Rattle.words.proofs.Cases.{below_or_not}
 use Rattle.tlb.specs.Lookup.{page_of, find_from, lookup}
 
@@ -76,3 +78,16 @@ module _ (highs : List ℕ) (page : ℕ) where
   pub lookup_has : lookup highs page < 32 → page_of (get_or highs (lookup highs page) 0) ≡ page
   unfolding lookup
   lookup_has h = found_has 32 0 h
+
+  -- the first entry that has the page, as a search over all 32 finds it
+  pub position_lookup : (r : Option ℕ) → length highs ≡ 32
+      → MatchOption r (AllWithin (λ high. page_of high ≡ page → ⊥) highs 0 (length highs))
+      (λ i. (i < length highs) × HoldsAt (λ high. page_of high ≡ page) highs i × AllWithin (λ high. page_of high ≡ page → ⊥) highs 0 i)
+      → unwrap_or r 32 ≡ lookup highs page
+  position_lookup None all none = sym (lookup_none (λ j h. none j 0 (omega arith) (omega (arith, all, h))))
+  position_lookup (Some i) all first =
+      sym (lookup_lowest i (omega (arith, all, first.0)) (first.1 0) (λ j h. first.2 j 0 (omega arith) h))
+
+-- the lookup of entry 0's page
+pub first_lookup : (highs : List ℕ) → lookup highs (page_of (get_or highs 0 0)) ≡ 0
+first_lookup highs = lookup_lowest highs (page_of (get_or highs 0 0)) 0 (omega arith) refl (λ j h. absurd (omega (arith, h)))

@@ -13,20 +13,18 @@ pub const NO_SLOT: u32 = 33;
 // The high words of the TLB.
 pub type Words = [u32; 32];
 
-// The lowest index of a page's entry, or 32.
+// The lowest index of a page's entry, or 32. A number and no Option, which is no plainer: a caller that reads the entry would test its bound again, and
+// `i < 32` is both tests at once.
 pub fn find(highs: &Words, page: u32) -> usize
     ensures { result ≡ lookup highs.now page }
 {
-    let mut i: usize = 0;
-    while i < 32 {
-        if highs[i] / 0x1000 == page {
-            return i;
-        }
-        i += 1;
-    }
-    i
+    highs
+        .iter()
+        .position(|high| high / 0x1000 == page)
+        .unwrap_or(32)
 }
 
+#[tactic(auto, unfolding(crate::specs::Lookup::found_index))]
 pub fn found_index(i: usize) -> u32
     ensures { result ≡ found_index i }
 {
@@ -64,37 +62,37 @@ pub fn index_of(highs: &Words, address: u32) -> usize
 }
 
 // The entry that was looked up last: in a run the next fetch mostly needs the same.
-#[derive(Clone, Copy)]
+#[derive(Clone, Copy, Debug, PartialEq, Eq)]
 pub struct Found {
     pub page: u32,
     pub index: usize,
 }
 
-// Entry 0: a lookup of its page would find it at once.
-pub fn first(highs: &Words) -> Found
-    ensures { (result.page ≡ page_of (get_or highs.now 0 0)) × (result.index ≡ lookup highs.now result.page) }
-{
-    Found {
-        page: highs[0] / 0x1000,
-        index: 0,
+impl Found {
+    // Entry 0: a lookup of its page would find it at once.
+    #[tactic(auto, using(crate::proofs::Lowest::first_lookup))]
+    pub fn first(highs: &Words) -> Self
+        ensures { (result.page ≡ page_of (get_or highs.now 0 0)) × (result.index ≡ lookup highs.now result.page) }
+    {
+        Self {
+            page: highs[0] / 0x1000,
+            index: 0,
+        }
     }
-}
 
-// The entry for an address, where the TLB maps it; otherwise the last one.
-pub fn follow(highs: &Words, last: Found, address: u32) -> Found
-    requires { last.index ≡ lookup highs.now last.page }
-    ensures page { result.page ≡ cond (leb 0xC0000000 address) last.page (page_of address) }
-    ensures index { result.index ≡ lookup highs.now result.page }
-{
-    if 0xC000_0000 <= address {
-        return last;
-    }
-    let page = address / 0x1000;
-    if page == last.page {
-        return last;
-    }
-    Found {
-        page: page,
-        index: find(highs, page),
+    // The entry for an address, where the TLB maps it; otherwise the last one.
+    pub fn follow(self, highs: &Words, address: u32) -> Self
+        requires { self.index ≡ lookup highs.now self.page }
+        ensures page { result.page ≡ cond (leb 0xC0000000 address) self.page (page_of address) }
+        ensures index { result.index ≡ lookup highs.now result.page }
+    {
+        let page = address / 0x1000;
+        if 0xC000_0000 <= address || page == self.page {
+            return self;
+        }
+        Self {
+            page,
+            index: find(highs, page),
+        }
     }
 }

@@ -1,11 +1,9 @@
--- What the code's own functions answer; no definition of an instruction names it.
-use Rattle.std.specs.Prelude.{cond, List, [], ◌∷◌, ℕ, eqb}
-use Rattle.words.specs.Numbers.{zero_extend, sign_extend}
+-- A helper of the code's contracts. No definition names it.
+use Rattle.std.specs.Prelude.{Result, Ok, Err, ℕ}
+use Rattle.access.specs.declared.Fetched.{Fetched}
+use Rattle.access.specs.declared.Fault.{Fault}
 
--- the extensions of LDW, LDH, LDHU and LDB, in this order; LDBU's, `zero_extend 8`, stands past the end
-unfoldable pub extensions : List (ℕ → ℕ)
-extensions = (λ v. v) ∷ sign_extend 16 ∷ zero_extend 16 ∷ sign_extend 8 ∷ []
-
--- the bytes of STW, STH and STB, the sixth to the eighth
-unfoldable pub stored_bytes : ℕ → ℕ
-stored_bytes kind = cond (eqb kind 5) 4 (cond (eqb kind 6) 2 1)
+-- what a function makes of the value that was read, if one was
+abbrev pub Made : (ℕ → ℕ → Type 0) → Result Fetched Fault → ℕ → Type 0
+Made function (Ok at) v = function at.value v
+Made function (Err fault) v = Unit {0}

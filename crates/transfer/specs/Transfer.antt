@@ -5,8 +5,7 @@ use Rattle.sums.specs.Sums.{sum}
 use Rattle.instructions.specs.Operands.{Operands, Meaning, immediate_s, field_y}
 use Rattle.instructions.specs.Action.{Action, Write, Exception}
 use Rattle.access.specs.Reads.{read_from}
-use Rattle.access.specs.declared.Read.{Read}
-use Rattle.access.specs.declared.Read.TheVariants.{Value, Fault}
+use Rattle.access.specs.Read.{Read, Value, Fault}
 use Rattle.access.specs.Writes.{store_to}
 
 -- ---- loading

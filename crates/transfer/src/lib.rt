@@ -1,122 +1,63 @@
 // Loads and stores (manual, 3.5).
 #![tactic(auto)]
 
-ghost use Rattle.std.specs.Prelude.{◌≡◌, get_or};
-ghost use Rattle.instructions.specs.Operands.{operands, simple, illegal, around};
-ghost use Rattle.words.specs.Numbers.{zero_extend};
-ghost use Rattle.transfer.specs.Transfer.{landed, transfers};
-ghost use Rattle.transfer.specs.Code.{extensions, stored_bytes};
-ghost use Rattle.translation.specs.Translation.{bytes_of};
-ghost use Rattle.instructions.specs.Code.{action_of};
+ghost use Rattle.std.specs.Prelude.{◌≡◌, ℕ, get_or};
+ghost use Rattle.instructions.specs.Operands.{field_y, simple, illegal};
+ghost use Rattle.access.specs.Code.{surroundings_of, read_of};
+ghost use Rattle.transfer.specs.Transfer.{address_of, landed, transfers};
+ghost use Rattle.transfer.specs.Code.{Made};
+ghost use Rattle.instructions.specs.Code.{action_of, operands_of};
 
-use access::Read;
-use instructions::Coded;
-use processor::{Processor, Words};
-use timer::Timer;
+use access::{Fault, Fetched, Surroundings};
+use instructions::{Coded, Operands};
 use translation::Width;
-use words::extension;
+use words::extension::{sign_extend, zero_extend};
 
-// A loaded value extended, by the opcode counted from LDW: LDW, LDH, LDHU, LDB, LDBU.
-fn extend(kind: u32, v: u32) -> u32
-    ensures { result ≡ get_or extensions kind (zero_extend 8) v }
+// The address of a load or a store.
+fn address_of(o: Operands) -> u32
+    ensures { result ≡ address_of (operands_of o) }
 {
-    match kind {
-        0 => v,
-        1 => extension::sign_extend_16(v),
-        2 => extension::zero_extend_16(v),
-        3 => extension::sign_extend_8(v),
-        _ => extension::zero_extend_8(v),
-    }
+    sums::add(o.x, o.immediate_s())
 }
 
 // The end of a load: the value extended into its register, or the fault with its address.
-fn land(kind: u32, read: Read, number: u32, address: u32, next: u32) -> Coded
-    ensures { action_of result ≡ landed (get_or extensions kind (zero_extend 8)) number address next read }
+fn land<F: Fn(u32) -> u32>(
+    read: Result<Fetched, Fault>,
+    extend: F,
+    address: u32,
+    o: Operands,
+) -> Coded
+    requires { F.IsAlwaysCallable extend }
+    ensures { (v : ℕ) × Made (F.post extend) read v × (action_of result ≡ landed (λ read_value. v) (field_y o.word) address o.next (read_of read)) }
 {
     match read {
-        Read::Value(v, slot) => Coded::Write(number, extend(kind, v), next, slot),
-        Read::Fault(eid) => Coded::Exception(eid, address, 0, 0),
-    }
-}
-
-// The width of a store, by the opcode counted from LDW: STW, STH, STB.
-fn stored(kind: u32) -> Width
-    ensures { bytes_of result ≡ stored_bytes kind }
-{
-    match kind {
-        5 => Width::Word,
-        6 => Width::Half,
-        _ => Width::Byte,
+        Ok(at) => Coded::Write {
+            register: o.field_y(),
+            value: extend(at.value),
+            next: o.next,
+            slot: at.slot,
+        },
+        Err(fault) => Coded::Exception {
+            eid: fault.eid(),
+            address,
+        },
     }
 }
 
 // Opcodes 30 to 37, counted from 0.
-pub fn transfer<'a>(
-    psw: u32,
-    highs: &'a Words,
-    lows: &'a Words,
-    timer: Timer,
-    ram: &[u8],
-    rom: &[u8],
-    belt: &[u8],
-    kind: u32,
-    x: u32,
-    y: u32,
-    word: u32,
-    next: u32,
-) -> Coded
-    ensures { action_of result ≡ get_or transfers kind (simple illegal) (around psw highs.now lows.now timer ram.now rom.now belt.now) (operands x y word next) }
+pub fn transfer<'a>(s: Surroundings<'a>, kind: u32, o: Operands) -> Coded
+    ensures { action_of result ≡ get_or transfers kind (simple illegal) (surroundings_of s.entry) (operands_of o) }
 {
-    let n = word / 0x1_0000 % 32;
-    let address = sums::add(x, extension::sign_extend_16(word));
+    let address = address_of(o);
     match kind {
-        0 => land(
-            0,
-            access::read_word(psw, highs, lows, timer, ram, rom, belt, address),
-            n,
-            address,
-            next,
-        ),
-        1 => land(
-            1,
-            access::read_half(psw, highs, lows, timer, ram, rom, belt, address),
-            n,
-            address,
-            next,
-        ),
-        2 => land(
-            2,
-            access::read_half(psw, highs, lows, timer, ram, rom, belt, address),
-            n,
-            address,
-            next,
-        ),
-        3 => land(
-            3,
-            access::read_byte(psw, highs, lows, timer, ram, rom, belt, address),
-            n,
-            address,
-            next,
-        ),
-        4 => land(
-            4,
-            access::read_byte(psw, highs, lows, timer, ram, rom, belt, address),
-            n,
-            address,
-            next,
-        ),
-        5 | 6 | 7 => access::store(
-            psw,
-            highs,
-            lows,
-            timer,
-            ram,
-            rom,
-            belt,
-            stored(kind),
-            y,
-            address,
-        ),
-        _ => Coded::Exception(Processor::ILLEGAL_INSTRUCTION, 0, 0, 0),
+        0 => land(s.read::<4>(address), |v| v, address, o),
+        1 => land(s.read::<2>(address), sign_extend::<16>, address, o),
+        2 => land(s.read::<2>(address), zero_extend::<16>, address, o),
+        3 => land(s.read::<1>(address), sign_extend::<8>, address, o),
+        4 => land(s.read::<1>(address), zero_extend::<8>, address, o),
+        5 => s.store(Width::Word, o.y, address),
+        6 => s.store(Width::Half, o.y, address),
+        7 => s.store(Width::Byte, o.y, address),
+        _ => o.illegal(),
     }
 }

@@ -15,7 +15,7 @@ use Rattle.translation.specs.Translation.{frame_of, valid, writable, through, ma
 use Rattle.words.proofs.Cases.{by_test}
 use Rattle.words.proofs.Conjunction.{first_fails, second_fails, not_false}
 use Rattle.translation.proofs.Resolved.{refused}
-use Rattle.translation.specs.declared.Translation.TheVariants.{Physical, TlbMiss, TlbWrite, TlbInvalid, IllegalAddress, PrivilegedAddress}
+use Rattle.translation.specs.Translation.{Physical, TlbMiss, TlbWrite, TlbInvalid, IllegalAddress, PrivilegedAddress}
 
 -- a mapped address: its slot is the lookup's, whose entry is valid, writable for a store, and names the frame of the physical address
 pub record Mapped (highs lows : List ℕ) (store : Bool) (address physical slot : ℕ) : Type 0 where

@@ -12,9 +12,7 @@ use Rattle.words.specs.Logic.{both, Exactly}
 use Rattle.words.specs.Identifiers.{tlb_miss, tlb_write, tlb_invalid, illegal_address, privileged_address}
 use Rattle.tlb.specs.Lookup.{page_of, no_entry, direct_mapped, lookup}
 use Rattle.tlb.proofs.Lowest.{lookup_has, lookup_first}
-use Rattle.translation.specs.Translation.{frame_of, valid, writable, through, mapped, forbidden, translated, resolved}
-use Rattle.translation.specs.declared.Translation.{Translation}
-use Rattle.translation.specs.declared.Translation.TheVariants.{Physical}
+use Rattle.translation.specs.Translation.{frame_of, valid, writable, through, mapped, forbidden, translated, resolved, Translation, Physical}
 use Rattle.translation.proofs.Granted.{Mapped, Passed, passed}
 
 -- ---- which entry

@@ -1,2 +1,3 @@
 -- The definitions of `translation`.
 pub mod Translation
+pub mod Code

@@ -7,8 +7,15 @@ use Rattle.words.specs.Identifiers.{tlb_miss, tlb_write, tlb_invalid, illegal_ad
 use Rattle.tlb.specs.Lookup.{page_of, no_entry, direct_mapped, no_slot, lookup}
 use Rattle.translation.specs.declared.Width.{Width}
 use Rattle.translation.specs.declared.Width.TheVariants.{Byte, Half, Word}
-use Rattle.translation.specs.declared.Translation.{Translation}
-use Rattle.translation.specs.declared.Translation.TheVariants.{Physical, TlbMiss, TlbWrite, TlbInvalid, IllegalAddress, PrivilegedAddress}
+
+-- what an access comes to: the physical address with the slot that served it, or its fault
+pub data Translation : Type 0 where
+  Physical : ℕ → ℕ → Translation
+  TlbMiss : Translation
+  TlbWrite : Translation
+  TlbInvalid : Translation
+  IllegalAddress : Translation
+  PrivilegedAddress : Translation
 
 -- the bytes of an access
 abbrev pub bytes_of : Width → ℕ

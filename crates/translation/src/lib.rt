@@ -2,8 +2,8 @@
 #![tactic(auto)]
 
 ghost use Rattle.std.specs.Prelude.{◌≡◌, not, cond, ◌%◌, ltb, eqb, get_or};
-ghost use Rattle.translation.specs.Translation.{bytes_of, through, forbidden, translated, translation_eid};
-ghost use Rattle.translation.specs.declared.Translation.TheVariants.{TlbMiss};
+ghost use Rattle.translation.specs.Translation.{TlbMiss, bytes_of, through, forbidden, translated, translation_eid};
+ghost use Rattle.translation.specs.Code.{fault_of, translation_of};
 ghost use Rattle.tlb.specs.Found.{Serves};
 ghost use Rattle.tlb.specs.Lookup.{no_entry};
 
@@ -11,22 +11,41 @@ use processor::Processor;
 use tlb::Words;
 
 // The size of an access.
-#[derive(Clone, Copy)]
+#[derive(Clone, Copy, Debug, PartialEq, Eq)]
 pub enum Width {
     Byte,
     Half,
     Word,
 }
 
-#[derive(Clone, Copy)]
-pub enum Translation {
-    // The physical address, and the slot that served it.
-    Physical(u32, u32),
+// The physical address, and the slot that served it.
+#[derive(Clone, Copy, Debug, PartialEq, Eq)]
+pub struct Physical {
+    pub address: u32,
+    pub slot: u32,
+}
+
+#[derive(Clone, Copy, Debug, PartialEq, Eq)]
+pub enum Fault {
     TlbMiss,
     TlbWrite,
     TlbInvalid,
     IllegalAddress,
     PrivilegedAddress,
+}
+
+impl Fault {
+    pub fn eid(self) -> u32
+        ensures { result ≡ translation_eid (fault_of self) }
+    {
+        match self {
+            Fault::TlbMiss => Processor::TLB_MISS,
+            Fault::TlbWrite => Processor::TLB_WRITE,
+            Fault::TlbInvalid => Processor::TLB_INVALID,
+            Fault::IllegalAddress => Processor::ILLEGAL_ADDRESS,
+            Fault::PrivilegedAddress => Processor::PRIVILEGED_ADDRESS,
+        }
+    }
 }
 
 pub fn is_misaligned(address: u32, width: Width) -> bool
@@ -39,41 +58,41 @@ pub fn is_misaligned(address: u32, width: Width) -> bool
     }
 }
 
+#[tactic(auto, unfolding(crate::specs::Translation::forbidden))]
 pub fn is_forbidden(psw: u32, address: u32) -> bool
     ensures { result ≡ forbidden psw address }
 {
-    if address < 0x8000_0000 {
-        return false;
-    }
-    status::is_user_mode(psw)
+    0x8000_0000 <= address && status::is_user_mode(psw)
 }
 
-fn through(low: u32, slot: u32, store: bool, address: u32) -> Translation
-    ensures { result ≡ through low slot store address }
+#[tactic(auto, unfolding(crate::specs::Translation::through, crate::specs::Translation::valid, crate::specs::Translation::writable))]
+fn through(low: u32, slot: u32, store: bool, address: u32) -> Result<Physical, Fault>
+    ensures { translation_of result ≡ through low slot store address }
 {
     if low % 2 != 1 {
-        return Translation::TlbInvalid;
+        return Err(Fault::TlbInvalid);
     }
-    if store {
-        if low / 2 % 2 != 1 {
-            return Translation::TlbWrite;
-        }
-        return Translation::Physical(low / 0x1000 * 0x1000 + address % 0x1000, slot);
+    if store && low / 2 % 2 != 1 {
+        return Err(Fault::TlbWrite);
     }
-    Translation::Physical(low / 0x1000 * 0x1000 + address % 0x1000, slot)
+    Ok(Physical {
+        address: low / 0x1000 * 0x1000 + address % 0x1000,
+        slot: slot,
+    })
 }
 
 // By the index of the page's entry, or 32.
-pub fn by_entry(lows: &Words, i: usize, store: bool, address: u32) -> Translation
-    ensures { result ≡ cond (ltb i no_entry) (through (get_or lows.now i 0) i store address) TlbMiss }
+pub fn by_entry(lows: &Words, i: usize, store: bool, address: u32) -> Result<Physical, Fault>
+    ensures { translation_of result ≡ cond (ltb i no_entry) (through (get_or lows.now i 0) i store address) TlbMiss }
 {
     if i < 32 {
         return through(lows[i], i as u32, store, address);
     }
-    Translation::TlbMiss
+    Err(Fault::TlbMiss)
 }
 
 // With the index of the address's page at hand: `highs` is in the contract alone.
+#[tactic(auto, unfolding(crate::specs::Translation::translated, crate::specs::Translation::mapped))]
 pub fn translate_at<'a>(
     psw: u32,
     highs: &'a Words,
@@ -82,18 +101,21 @@ pub fn translate_at<'a>(
     width: Width,
     store: bool,
     address: u32,
-) -> Translation
+) -> Result<Physical, Fault>
     requires { Serves highs.now i address }
-    ensures { result ≡ translated psw highs.now lows.now (bytes_of width) store address }
+    ensures { translation_of result ≡ translated psw highs.now lows.now (bytes_of width) store address }
 {
     if is_misaligned(address, width) {
-        return Translation::IllegalAddress;
+        return Err(Fault::IllegalAddress);
     }
     if is_forbidden(psw, address) {
-        return Translation::PrivilegedAddress;
+        return Err(Fault::PrivilegedAddress);
     }
     if 0xC000_0000 <= address {
-        return Translation::Physical(address - 0xC000_0000, tlb::DIRECT_MAPPED);
+        return Ok(Physical {
+            address: address - 0xC000_0000,
+            slot: tlb::DIRECT_MAPPED,
+        });
     }
     by_entry(lows, i, store, address)
 }
@@ -105,23 +127,19 @@ pub fn translate<'a>(
     width: Width,
     store: bool,
     address: u32,
-) -> Translation
-    ensures { result ≡ translated psw highs.now lows.now (bytes_of width) store address }
+) -> Result<Physical, Fault>
+    ensures { translation_of result ≡ translated psw highs.now lows.now (bytes_of width) store address }
 {
     let i = tlb::index_of(highs, address);
     translate_at(psw, highs, lows, i, width, store, address)
 }
 
 // The identifier of the fault, or 32.
-pub fn eid_of(answer: Translation) -> u32
-    ensures { result ≡ translation_eid answer }
+pub fn eid_of(answer: Result<Physical, Fault>) -> u32
+    ensures { result ≡ translation_eid (translation_of answer) }
 {
     match answer {
-        Translation::Physical(_, _) => Processor::NO_EXCEPTION,
-        Translation::TlbMiss => Processor::TLB_MISS,
-        Translation::TlbWrite => Processor::TLB_WRITE,
-        Translation::TlbInvalid => Processor::TLB_INVALID,
-        Translation::IllegalAddress => Processor::ILLEGAL_ADDRESS,
-        Translation::PrivilegedAddress => Processor::PRIVILEGED_ADDRESS,
+        Ok(_) => Processor::NO_EXCEPTION,
+        Err(fault) => fault.eid(),
     }
 }

@@ -3,33 +3,19 @@
 
 mod report;
 
-ghost use Rattle.std.specs.Prelude.{true, ◌≡◌, ◌-◌, ◌≤◌, IfOk};
+ghost use Rattle.std.specs.Prelude.{true, ◌≡◌, IfOk};
 
-use processor::Processor;
+use machine::State;
 use replay::{Counts, Progress};
 use std::fs::File;
 use std::io::{ErrorKind, Read};
 use std::rt::Files;
 use std::{io, str};
-use timer::Timer;
 
 // The bytes of a part, and the most parts that are read: a longer file is one without an end.
 const PART: usize = 65536;
 
 const MOST_PARTS: u32 = 1024;
-
-// How many parts may follow one of n bytes: none where it did not fill its buffer.
-fn parts_left(n: usize, left: u32) -> u32
-    ensures { result ≤ left - 1 }
-{
-    if n < PART {
-        return 0;
-    }
-    if left == 0 {
-        return 0;
-    }
-    left - 1
-}
 
 // RAM of 8,192 bytes, ROM of 4,096 and a belt of 1,024. What is counted is printed and answered. A part that cannot be read counts as an
 // empty one, which is the last. An error is that of a write.
@@ -46,12 +32,10 @@ fn replay_file(rt: &impl Print, file: &mut impl Read) -> io::Result<Counts>
     let mut opcodes = [0u32; 64];
     let mut exceptions = [0u32; 32];
     let mut progress = Progress {
-        processor: Processor::reset(),
-        timer: Timer::reset(),
+        state: State::reset(),
         counts: Counts::zero(),
     };
-    let mut left = MOST_PARTS;
-    while left > 0 {
+    for _ in 0..MOST_PARTS {
         let mut buffer = [0u8; PART];
         let n = reading::read_full(file, &mut buffer).unwrap_or(0);
         progress = replay::part(
@@ -67,7 +51,9 @@ fn replay_file(rt: &impl Print, file: &mut impl Read) -> io::Result<Counts>
             &mut exceptions,
             &buffer[..n],
         );
-        left = parts_left(n, left);
+        if n < PART {
+            break;
+        }
     }
     let total = replay::finish(progress.counts);
     report::print(rt, total, &opcodes, &exceptions)?;

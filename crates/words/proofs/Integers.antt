@@ -1,5 +1,7 @@
 -- The signed reading of a word and the word of an integer (specs/Numbers) are two's complement: what each is, and that they are inverse.
-use Rattle.std.proofs.Common.{◌≡◌, ℕ, suc, ◌-◌, ◌*◌, ◌/◌, ◌%◌, ◌^◌, ◌<◌, ◌≤◌, ℤ, pos, negsuc, ap, ◌∙◌, arith, le-ltb, lt-ltb}
+use Rattle.std.proofs.Common.{◌≡◌, ℕ, suc, ◌-◌, ◌*◌, ◌/◌, ◌%◌, ◌^◌, ◌<◌, ◌≤◌, ℤ, pos, negsuc, ap, sym, ◌∙◌, nat_abs, arith, le-ltb, lt-ltb}
+use Rattle.std.proofs.lemmas.Int.{of_z-to_z}
+use Rattle.std.specs.Int.{w32, cast_signed, cast_unsigned}
 use lib.IntN.{sub_ℕ}
 use Rattle.words.proofs.Cases.{below_or_not}
 use Rattle.words.specs.Numbers.{bit, signed, word_of}
@@ -64,3 +66,27 @@ pub signed_word_negative : (n : ℕ) → n < 2 ^ 31 → signed 32 (word_of (negs
 signed_word_negative n h =
     let back : 4294967295 - (4294967295 - n) ≡ n = omega arith in
     ap (signed 32) (word_negsuc n (omega arith)) ∙ signed_high (4294967295 - n) (omega arith) (omega arith) ∙ ap negsuc back
+
+-- ---- the casts between u32 and i32
+
+pub cast_reads : (n : ℕ) → n < 2 ^ 32 → cast_signed w32 n ≡ signed 32 n
+cast_reads n h =
+    by_sign (λ z. cast_signed w32 n ≡ z) n h
+    (λ l. simp (lt-ltb n 2147483648 l))
+    (λ l. simp (le-ltb n 2147483648 l) (ap negsuc (let same : 4294967296 - suc n ≡ 4294967295 - n = omega arith in same)))
+
+-- of an integer in the signed range
+pub cast_pos : (n : ℕ) → n < 2 ^ 31 → cast_unsigned w32 (pos n) ≡ word_of (pos n)
+cast_pos n h = sym (word_pos n (omega arith))
+
+pub cast_negsuc : (n : ℕ) → n < 2 ^ 31 → cast_unsigned w32 (negsuc n) ≡ word_of (negsuc n)
+cast_negsuc n h = let same : 4294967296 - suc n ≡ 4294967295 - n = omega arith in same ∙ sym (word_negsuc n (omega arith))
+
+-- the bits of an integer of the signed range, or of 2 ^ 31, are its word
+pub cast_back : (z : ℤ) → nat_abs z ≤ 2 ^ 31 → cast_unsigned w32 (cast_signed w32 (cast_unsigned w32 z)) ≡ word_of z
+cast_back (pos n) h = of_z-to_z w32 n (omega arith) ∙ sym (word_pos n (omega arith))
+cast_back (negsuc n) h = of_z-to_z w32 (4294967296 - suc n) (omega arith) ∙ cast_negsuc n (omega arith)
+
+-- the size of a signed reading
+pub signed_size : (n : ℕ) → n < 2 ^ 32 → nat_abs (signed 32 n) ≤ 2 ^ 31
+signed_size n h = by_sign (λ z. nat_abs z ≤ 2147483648) n h (λ l. omega arith) (λ l. omega arith)

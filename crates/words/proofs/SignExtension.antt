@@ -2,7 +2,7 @@
 use Rattle.std.proofs.Common.{◌≡◌, ℕ, zero, suc, ◌+◌, ◌-◌, ◌*◌, ◌%◌, ◌^◌, ◌<◌, ◌≤◌, pos, negsuc, sym, ap, ◌∙◌, add-zero, mod-lt, mod-eq_of_lt, one-mul, zero-add, zero-mul, arith, pow_pos, pow_mono, pow-add}
 use native.Mathlib.Nat.{add-mod_right, sub-zero}
 use lib.IntN.{sub_ℕ}
-use lib.Pow.{mod-pow-add}
+use lib.Pow.{mod-pow-add, pow-lt}
 use Rattle.words.specs.Numbers.{bit, sign_extend, signed}
 use Rattle.words.proofs.Cases.{below_or_not, bit_lt}
 use Rattle.words.proofs.Integers.{signed_low, signed_high, sub_pos, sub_neg}
@@ -80,8 +80,8 @@ reads_set h l hl hh =
     let less : 4294967295 - (h + l + (4294967296 - 2 * h)) ≡ h - suc l = omega arith in
     signed_high (h + l + (4294967296 - 2 * h)) (omega arith) (omega arith) ∙ ap negsuc less ∙ sym (sub_neg l h hl)
 
--- the code's sums: 2 ^ w is added modulo 2 ^ (w + 1), and taken off modulo 2 ^ 32
-pub sign_extends : (w n r : ℕ) → w < 32 → r < 2 ^ 32 → (r + 2 ^ w) % 2 ^ 32 ≡ (n % 2 ^ suc w + 2 ^ w) % 2 ^ suc w
+-- 2 ^ w is added modulo 2 ^ (w + 1), and taken off modulo 2 ^ 32
+sign_extends : (w n r : ℕ) → w < 32 → r < 2 ^ 32 → (r + 2 ^ w) % 2 ^ 32 ≡ (n % 2 ^ suc w + 2 ^ w) % 2 ^ suc w
     → r ≡ sign_extend (suc w) n
 sign_extends w n r hw hr e =
     by_top
@@ -94,6 +94,26 @@ sign_extends w n r hw hr e =
     (λ f. simp one-mul (set (2 ^ w) (n % 2 ^ w) (2 ^ 32) r (rest_lt w n) (half w hw) hr (simp one-mul at f)))
     (rw (split w n, twice w) at e)
     ∙ sym (extended w n)
+
+-- a number taken off modulo 2 ^ 32 and added again
+back : (x h : ℕ) → x < 2 ^ 32 → h ≤ 2 ^ 32 → ((x + (2 ^ 32 - h)) % 2 ^ 32 + h) % 2 ^ 32 ≡ x
+back x h hx hh = omega arith
+
+-- a power of 2 that is a word, as the code's shift makes it
+pub shifted : (w : ℕ) → w < 32 → 1 * 2 ^ w % 2 ^ 32 ≡ 2 ^ w
+shifted w h = rw one-mul (mod-eq_of_lt (pow-lt h))
+
+-- the code's sums
+pub code_extends : (w n : ℕ) → 1 ≤ w → w < 32
+    → ((n % (1 * 2 ^ w % 2 ^ 32) + 1 * 2 ^ (w - 1) % 2 ^ 32) % (1 * 2 ^ w % 2 ^ 32) + (2 ^ 32 - 1 * 2 ^ (w - 1) % 2 ^ 32)) % 2 ^ 32 ≡ sign_extend w n
+code_extends zero n h k = elim h [ ]
+code_extends (suc w) n h k =
+    let x : ℕ = (n % 2 ^ suc w + 2 ^ w) % 2 ^ suc w in
+    let bound : 2 ^ suc w ≤ 2 ^ 32 = pow_mono {i = suc w} {j = 32} (omega arith) in
+    let low : 2 ^ w ≤ 2 ^ 32 = pow_mono {i = w} {j = 32} (omega arith) in
+    let xlt : x < 2 ^ suc w = mod-lt (n % 2 ^ suc w + 2 ^ w) (pow_pos (suc w)) in
+    rw (under w, shifted (suc w) k, shifted w (omega arith))
+    (sign_extends w n ((x + (2 ^ 32 - 2 ^ w)) % 2 ^ 32) (omega arith) (omega arith) (back x (2 ^ w) (omega arith) low))
 
 -- the extended bits have the signed reading of those that were extended
 pub keeps_signed : (w n : ℕ) → w < 32 → signed 32 (sign_extend (suc w) n) ≡ signed (suc w) n

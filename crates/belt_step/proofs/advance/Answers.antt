@@ -2,7 +2,5 @@
 use Rattle.belt_step.proofs.LineLaws.{line_of_step, line_length}
 use Rattle.belt_step.proofs.advance.Goals as goal
 
-pub returns : goal.returns
-returns c =
-    let e = c.step-stepped.ensures in
-    record { state = e; text = rw (c.put.ensures, c.line-row.ensures, line_of_step _ _ e, line_length) }
+pub returns-clause-text : goal.returns-clause-text
+returns-clause-text c = rw (c.put.ensures, c.line-row.ensures, line_of_step _ _ c.step-stepped.ensures, line_length)

@@ -5,4 +5,5 @@ use Rattle.expected.proofs.record_agrees.Goals as goal
 
 pub returns : goal.returns
 returns c =
-    rw (c.same_bytes.ensures, c.write-refusal.ensures.refusal, c.write-refusal.ensures.buffer) (record_compared _ _ _ _ refl)
+    let write = c.write-answer in
+    rw (c.same.ensures, c.is_ok.ensures.value, write.ensures.buffer) (record_compared _ _ _ _ write.result refl write.ensures.refusal)

@@ -1,13 +1,8 @@
--- `look::lowest_ready` meets its contract, by the laws of Loop.
+-- `look::lowest_ready` meets its contract, by the laws of ChannelLoop.
 use mathlib.Core.Path.{◌≡◌}
-use Prim.Native.Nat.{◌≤◌, ◌-◌}
+use Prim.Native.Nat.{◌-◌}
 use Rattle.look.specs.Interrupt.{lowest}
 use Rattle.look.proofs.lowest_ready.Given as goal
 
 abbrev pub invariant-loop-i : goal.invariant-loop-i
-invariant-loop-i l =
-    (l.i ≤ 16) × (lowest 16 0 l.ready ≡ lowest (16 - l.i) l.i l.rest)
-
-abbrev pub decreases-loop-i : goal.decreases-loop-i
-decreases-loop-i l =
-    16 - l.i
+invariant-loop-i l = lowest 16 0 l.ready ≡ lowest (16 - l.i) l.i l.rest

@@ -1,29 +1,17 @@
 -- `quotients::divide_signed` meets its contract, by the laws of Division.
-use Rattle.std.proofs.Common.{rules}
-use Rattle.quotients.specs.Quotients.{unsigned_quotient}
-use Rattle.quotients.proofs.Division.{quotient_by_magnitudes}
+use Rattle.std.specs.Int.{w32}
+use Rattle.std.proofs.lemmas.Int.{of_z-to_z}
+use Rattle.quotients.specs.Quotients.{signed_quotient}
+use Rattle.quotients.proofs.Division.{quotient_cast, quotient_by_zero}
+use Rattle.quotients.proofs.Sizes.{signed_quotient_lt}
 use Rattle.quotients.proofs.divide_signed.Goals as goal
 
-pub magnitude-requires : goal.magnitude-requires
-unfolding unsigned_quotient
-magnitude-requires c = search rules
-
-pub magnitude-requires-2 : goal.magnitude-requires-2
-unfolding unsigned_quotient
-magnitude-requires-2 c = search rules
-
-pub divide_unsigned-q-requires : goal.divide_unsigned-q-requires
-unfolding unsigned_quotient
-divide_unsigned-q-requires c = search rules
-
-pub with_sign-requires : goal.with_sign-requires
-unfolding unsigned_quotient
-with_sign-requires c = search rules
-
-pub with_sign-requires-2 : goal.with_sign-requires-2
-unfolding unsigned_quotient
-with_sign-requires-2 c = search rules
+pub returns-then-y-eq0 : goal.returns-then-y-eq0
+returns-then-y-eq0 c = rw c.if-y-eq0.true (quotient_by_zero c.args.x c.ranges.x.fits)
 
 pub returns : goal.returns
-unfolding unsigned_quotient
-returns c = cc (quotient_by_magnitudes c.args.x c.args.y c.ranges.x.fits c.ranges.y.fits)
+returns c =
+    let x = c.ranges.x.fits in
+    let y = c.ranges.y.fits in
+    rw (c.cast_unsigned.ensures, c.wrapping_div.ensures, c.cast_signed.ensures, c.cast_signed-2.ensures, of_z-to_z w32 c.args.x x, of_z-to_z w32 c.args.y y, quotient_cast c.args.x c.args.y x y)
+    (of_z-to_z w32 (signed_quotient c.args.x c.args.y) (signed_quotient_lt c.args.x c.args.y))

@@ -1,25 +1,15 @@
 -- `quotients::remainder_signed` meets its contract, by the laws of Division.
-use Rattle.std.proofs.Common.{rules}
-use Rattle.quotients.specs.Quotients.{unsigned_remainder}
-use Rattle.quotients.proofs.Division.{remainder_by_magnitudes}
+use Rattle.std.specs.Int.{w32}
+use Rattle.std.proofs.lemmas.Int.{of_z-to_z}
+use Rattle.quotients.proofs.Division.{remainder_cast, remainder_by_zero}
 use Rattle.quotients.proofs.remainder_signed.Goals as goal
 
-pub magnitude-requires : goal.magnitude-requires
-unfolding unsigned_remainder
-magnitude-requires c = search rules
-
-pub magnitude-requires-2 : goal.magnitude-requires-2
-unfolding unsigned_remainder
-magnitude-requires-2 c = search rules
-
-pub remainder_unsigned-m-requires : goal.remainder_unsigned-m-requires
-unfolding unsigned_remainder
-remainder_unsigned-m-requires c = search rules
-
-pub with_sign-requires : goal.with_sign-requires
-unfolding unsigned_remainder
-with_sign-requires c = search rules
+pub returns-then-y-eq0 : goal.returns-then-y-eq0
+returns-then-y-eq0 c = rw c.if-y-eq0.true (remainder_by_zero c.args.x c.ranges.x.fits)
 
 pub returns : goal.returns
-unfolding unsigned_remainder
-returns c = cc (remainder_by_magnitudes c.args.x c.args.y c.ranges.x.fits c.ranges.y.fits)
+returns c =
+    let x = c.ranges.x.fits in
+    let y = c.ranges.y.fits in
+    rw (c.cast_unsigned.ensures, c.wrapping_rem.ensures, c.cast_signed.ensures, c.cast_signed-2.ensures, of_z-to_z w32 c.args.x x, of_z-to_z w32 c.args.y y)
+    (remainder_cast c.args.x c.args.y x y)

@@ -6,24 +6,25 @@ use Rattle.record.proofs.write.Goals as goal
 
 pub returns-then-buffer-ne-LENGTH : goal.returns-then-buffer-ne-LENGTH
 returns-then-buffer-ne-LENGTH c =
-    let args = c.args in
-    let (refusal, buffer) = write_wrong_length args.p args.timer args.buffer.now c.if-buffer-ne-LENGTH.true in
+    let state = c.args.state in
+    let (refusal, buffer) = write_wrong_length state.processor state.timer c.args.buffer.now c.if-buffer-ne-LENGTH.true in
     record { refusal = refusal; buffer = buffer }
 
-pub returns-then-not-is_fit_with : goal.returns-then-not-is_fit_with
-returns-then-not-is_fit_with c =
-    let args = c.args in
-    let (refusal, buffer) = write_unfit args.p args.timer args.buffer.now c.if-buffer-ne-LENGTH.false (sym c.is_fit_with.ensures ∙ c.if-not-is_fit_with.true) in
+pub returns-then-not-is_fit : goal.returns-then-not-is_fit
+returns-then-not-is_fit c =
+    let state = c.args.state in
+    let unfit = sym c.is_fit.ensures ∙ c.if-not-is_fit.true in
+    let (refusal, buffer) = write_unfit state.processor state.timer c.args.buffer.now c.if-buffer-ne-LENGTH.false unfit in
     record { refusal = refusal; buffer = buffer }
 
 pub put-requires : goal.put-requires
 put-requires c =
-    let fitness = sym c.is_fit_with.ensures ∙ c.if-not-is_fit_with.false in
+    let fitness = sym c.is_fit.ensures ∙ c.if-not-is_fit.false in
     (c.if-buffer-ne-LENGTH.false, index_fits _ _ fitness, control_fits _ _ fitness)
 
 pub returns : goal.returns
 returns c =
-    let args = c.args in
-    let fitness = sym c.is_fit_with.ensures ∙ c.if-not-is_fit_with.false in
-    let answer = write_accepted args.p args.timer args.buffer.now c.if-buffer-ne-LENGTH.false fitness in
+    let state = c.args.state in
+    let fitness = sym c.is_fit.ensures ∙ c.if-not-is_fit.false in
+    let answer = write_accepted state.processor state.timer c.args.buffer.now c.if-buffer-ne-LENGTH.false fitness in
     record { refusal = answer.0; buffer = c.put.ensures ∙ answer.1 }

@@ -7,4 +7,4 @@ pub returns-then-s-lt-LENGTH : goal.returns-then-s-lt-LENGTH
 returns-then-s-lt-LENGTH c = c.reset.ensures ∙ timer_absent _ c.if-s-lt-LENGTH.true
 
 pub returns : goal.returns
-returns c = timer_read_lem _ c.if-s-lt-LENGTH.false c.read_word.ensures c.read_word-2.ensures c.read_byte.ensures
+returns c = timer_read_lem _ c.if-s-lt-LENGTH.false c.read.ensures c.read-2.ensures c.read-3.ensures

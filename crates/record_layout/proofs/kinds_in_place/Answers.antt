@@ -4,5 +4,5 @@ use Rattle.record_layout.proofs.kinds_in_place.Goals as goal
 
 pub returns : goal.returns
 returns c =
-    kind_tests _ c.read_byte.ensures c.read_byte-2.ensures c.read_byte-3.ensures
-    c.read_byte-4.ensures c.read_byte-5.ensures c.timer_kind_in_place.ensures
+    kind_tests _ c.read.ensures c.read-2.ensures c.read-3.ensures
+    c.read-4.ensures c.read-5.ensures c.timer_kind_in_place.ensures

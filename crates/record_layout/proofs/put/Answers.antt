@@ -4,5 +4,5 @@ use Rattle.record_layout.proofs.put.Goals as goal
 
 pub returns : goal.returns
 returns c =
-    both_written c.args.timer c.args.p c.args.s.now c.requires.0 c.put_timer.ensures
+    both_written c.args.state.timer c.args.state.processor c.args.s.now c.requires.0 c.put_timer.ensures
     c.put_processor.ensures

@@ -1,19 +1,13 @@
--- `tlb::find` meets its contract, by the laws of Loop.
-use mathlib.Core.Path.{refl, sym, ◌∙◌}
-use native.Mathlib.Omega.{arith}
-use Rattle.tlb.specs.Lookup.{lookup}
-use Rattle.tlb.proofs.Loop.{find_more, find_stop, find_end}
+-- `tlb::find` meets its contract: the position of the first entry with the page is the lookup's.
+use Rattle.std.proofs.Common.{rules, ◌≡◌, ◌/◌, ◌∙◌}
+use borrow.Author.Tests.{tests}
+use Rattle.std.proofs.lemmas.Iterator.{YieldsList-from_slice, IsFirst-from_position}
+use Rattle.tlb.proofs.Lowest.{position_lookup}
 use Rattle.tlb.proofs.find.Goals as goal
 
-pub loop-i-init : goal.loop-i-init
-unfolding lookup
-loop-i-init c = (omega arith, refl)
-
-pub returns-then-highs-i : goal.returns-then-highs-i
-returns-then-highs-i c = sym (c.loop-i.invariant.1 ∙ find_stop 32 _ c.loop-i.i _ c.loop-i-test.true c.if-highs-i.true)
-
-pub loop-i-preserved : goal.loop-i-preserved
-loop-i-preserved c = (omega arith, c.loop-i.invariant.1 ∙ find_more 32 _ c.loop-i.i _ c.loop-i-test.true c.if-highs-i.false)
-
 pub returns : goal.returns
-returns c = sym (c.loop-i.invariant.1 ∙ find_end 32 _ c.loop-i.i _ c.loop-i-test.false)
+returns c =
+    c.unwrap_or.ensures
+    ∙ position_lookup c.args.highs.now c.args.page c.position.result c.told-highs
+    (IsFirst-from_position _ _ _ (λ high. high / 4096 ≡ c.args.page) (λ high. high / 4096 ≡ c.args.page → ⊥) c.position.ensures.ran
+    (YieldsList-from_slice c.args.highs.now c.iter.ensures.rest) (λ x q k. search (rules, tests)) (λ x q k. search (rules, tests)))

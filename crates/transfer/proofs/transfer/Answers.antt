@@ -1,68 +1,54 @@
--- `transfer::transfer` meets its contract, by the laws of Loads, and those of `instructions` on arms.
-use mathlib.Core.Path.{ap, ◌∙◌}
-use Prim.Native.Nat.{ℕ}
+-- `transfer::transfer` meets its contract: each arm is its row of the table, by the laws of Loads.
+use mathlib.Core.Path.{refl, ◌∙◌}
 use native.Mathlib.Omega.{arith}
-use lib.ListN.{get_or}
-use Rattle.instructions.specs.Operands.{operands, surroundings, simple, illegal}
-use Rattle.transfer.specs.Transfer.{load, transfers}
-use Rattle.transfer.specs.Code.{extensions}
-use Rattle.instructions.proofs.Arms.{arm}
-use Rattle.transfer.proofs.Loads.{lands, stores, none_left}
-use Rattle.memory.specs.Map.{memory}
-use Rattle.sums.specs.Sums.{sum}
+use borrow.Author.Rules.{rules}
+use Rattle.words.specs.Numbers.{zero_extend, sign_extend}
+use Rattle.memory.specs.Access.{access_width}
+use Rattle.transfer.specs.Transfer.{transfers}
+use Rattle.transfer.proofs.Loads.{loads, stores, none_left}
 use Rattle.transfer.proofs.transfer.Goals as goal
 
 pub returns-in-0 : goal.returns-in-0
-unfolding load extensions transfers
+unfolding access_width transfers
 returns-in-0 c =
-    let args = c.args in
-    arm (λ (n : ℕ). get_or transfers n (simple illegal) (surroundings args.psw args.highs.now args.lows.now args.timer
-    (memory args.ram.now args.rom.now args.belt.now)) (operands args.x args.y args.word args.next)) c.in-0.is
-    (lands _ _ _ 4 _ _ _ _ c.land.ensures c.read_word.ensures
-    (c.add-address.ensures ∙ ap (sum args.x) c.sign_extend_16.ensures))
+    loads _ _ 4 (λ v. v) _ c.in-0.is refl c.address_of-address.ensures c.read.ensures
+    c.land.ensures (λ n m p. search rules)
 
 pub returns-in-1 : goal.returns-in-1
-unfolding load extensions transfers
+unfolding access_width transfers
 returns-in-1 c =
-    let args = c.args in
-    arm (λ (n : ℕ). get_or transfers n (simple illegal) (surroundings args.psw args.highs.now args.lows.now args.timer
-    (memory args.ram.now args.rom.now args.belt.now)) (operands args.x args.y args.word args.next)) c.in-1.is
-    (lands _ _ _ 2 _ _ _ _ c.land-in-1.ensures c.read_half.ensures
-    (c.add-address.ensures ∙ ap (sum args.x) c.sign_extend_16.ensures))
+    loads _ _ 2 (sign_extend 16) _ c.in-1.is refl c.address_of-address.ensures c.read-in-1.ensures
+    c.land-in-1.ensures (λ n m p. p)
 
 pub returns-in-2 : goal.returns-in-2
-unfolding load extensions transfers
+unfolding access_width transfers
 returns-in-2 c =
-    let args = c.args in
-    arm (λ (n : ℕ). get_or transfers n (simple illegal) (surroundings args.psw args.highs.now args.lows.now args.timer
-    (memory args.ram.now args.rom.now args.belt.now)) (operands args.x args.y args.word args.next)) c.in-2.is
-    (lands _ _ _ 2 _ _ _ _ c.land-in-2.ensures c.read_half-in-2.ensures
-    (c.add-address.ensures ∙ ap (sum args.x) c.sign_extend_16.ensures))
+    loads _ _ 2 (zero_extend 16) _ c.in-2.is refl c.address_of-address.ensures c.read-in-2.ensures
+    c.land-in-2.ensures (λ n m p. p)
 
 pub returns-in-3 : goal.returns-in-3
-unfolding load extensions transfers
+unfolding access_width transfers
 returns-in-3 c =
-    let args = c.args in
-    arm (λ (n : ℕ). get_or transfers n (simple illegal) (surroundings args.psw args.highs.now args.lows.now args.timer
-    (memory args.ram.now args.rom.now args.belt.now)) (operands args.x args.y args.word args.next)) c.in-3.is
-    (lands _ _ _ 1 _ _ _ _ c.land-in-3.ensures c.read_byte.ensures
-    (c.add-address.ensures ∙ ap (sum args.x) c.sign_extend_16.ensures))
+    loads _ _ 1 (sign_extend 8) _ c.in-3.is refl c.address_of-address.ensures c.read-in-3.ensures
+    c.land-in-3.ensures (λ n m p. p)
 
 pub returns-in-4 : goal.returns-in-4
-unfolding load extensions transfers
+unfolding access_width transfers
 returns-in-4 c =
-    let args = c.args in
-    arm (λ (n : ℕ). get_or transfers n (simple illegal) (surroundings args.psw args.highs.now args.lows.now args.timer
-    (memory args.ram.now args.rom.now args.belt.now)) (operands args.x args.y args.word args.next)) c.in-4.is
-    (lands _ _ _ 1 _ _ _ _ c.land-in-4.ensures c.read_byte-in-4.ensures
-    (c.add-address.ensures ∙ ap (sum args.x) c.sign_extend_16.ensures))
+    loads _ _ 1 (zero_extend 8) _ c.in-4.is refl c.address_of-address.ensures c.read-in-4.ensures
+    c.land-in-4.ensures (λ n m p. p)
 
 pub returns-in-5 : goal.returns-in-5
-returns-in-5 c =
-    let args = c.args in
-    stores _ (operands args.x args.y args.word args.next) args.kind c.store.ensures c.stored.ensures
-    (c.add-address.ensures ∙ ap (sum args.x) c.sign_extend_16.ensures)
-    (omega arith) (omega arith)
+unfolding transfers
+returns-in-5 c = stores _ _ 4 c.in-5.is refl c.address_of-address.ensures c.store.ensures
+
+pub returns-in-6 : goal.returns-in-6
+unfolding transfers
+returns-in-6 c = stores _ _ 2 c.in-6.is refl c.address_of-address.ensures c.store-in-6.ensures
+
+pub returns-in-7 : goal.returns-in-7
+unfolding transfers
+returns-in-7 c = stores _ _ 1 c.in-7.is refl c.address_of-address.ensures c.store-in-7.ensures
 
 pub returns-in_default : goal.returns-in_default
-returns-in_default c = none_left _ _ _ (omega arith)
+returns-in_default c = c.illegal.ensures ∙ none_left _ _ _ (omega arith)

@@ -1,2 +1,0 @@
--- The law of `cases`.
-mod Filled

@@ -1,6 +1,0 @@
--- `runs::run` meets its contract, which is that of `runs::checked` for its kind.
-
-use Rattle.runs.proofs.run.Goals as goal
-
-pub returns : goal.returns
-returns c = c.checked.ensures

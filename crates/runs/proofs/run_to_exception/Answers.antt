@@ -1,6 +1,0 @@
--- `runs::run_to_exception` meets its contract, which is that of `runs::checked` for its kind.
-
-use Rattle.runs.proofs.run_to_exception.Goals as goal
-
-pub returns : goal.returns
-returns c = c.checked.ensures

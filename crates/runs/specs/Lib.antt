@@ -1,0 +1,2 @@
+-- The definitions of `runs`.
+pub mod Code

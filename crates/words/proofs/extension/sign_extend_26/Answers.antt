@@ -1,7 +1,0 @@
--- `words::extension::sign_extend_26` meets its contract, by the laws of SignExtension.
-use Rattle.std.proofs.Common.{rules}
-use Rattle.words.proofs.SignExtension.{sign_extends}
-use Rattle.words.proofs.extension.sign_extend_26.Goals as goal
-
-pub returns : goal.returns
-returns c = sign_extends 25 c.args.n _ (search rules) (search rules) c.wrapping_sub_u32.ensures.value
