@@ -11,17 +11,23 @@ use Rattle.memory.specs.declared.Place.{Place}
 use Rattle.memory.specs.declared.Place.TheVariants.{Ram, Rom, Belt, Timer, Nothing}
 use Rattle.memory.specs.Stored as stored
 use Rattle.memory.proofs.Outcomes.{answer_at}
-use Rattle.instructions.specs.Action.{Exception}
+use Rattle.translation.proofs.Resolved.{IsFault, at_fault}
+use Rattle.instructions.specs.Action.{Store, Exception}
 use Rattle.access.specs.Writes.{settled, store_through}
 
--- a fault of the translation, as the code names it
-pub store_fault : (width : ℕ) (m : Memory) (value address : ℕ) (f : translation.Fault)
+-- what is no physical address comes to its fault
+pub store_fault : (width : ℕ) (m : Memory) (value address : ℕ) (t : Translation) → IsFault t
+    → Exception (translation_eid t) address ≡ store_through width m value address t
+store_fault width m value address t h = at_fault _ (λ eid. Exception eid address) t h
+
+-- the same of a fault as the code names it
+pub coded_store_fault : (width : ℕ) (m : Memory) (value address : ℕ) (f : translation.Fault)
     → store_through width m value address (fault_of f) ≡ Exception (translation_eid (fault_of f)) address
-store_fault width m value address fault.TlbMiss = refl
-store_fault width m value address fault.TlbWrite = refl
-store_fault width m value address fault.TlbInvalid = refl
-store_fault width m value address fault.IllegalAddress = refl
-store_fault width m value address fault.PrivilegedAddress = refl
+coded_store_fault width m value address fault.TlbMiss = refl
+coded_store_fault width m value address fault.TlbWrite = refl
+coded_store_fault width m value address fault.TlbInvalid = refl
+coded_store_fault width m value address fault.IllegalAddress = refl
+coded_store_fault width m value address fault.PrivilegedAddress = refl
 
 -- what is at a place takes a store
 pub taken : (p : Place) → (p ≡ Nothing → ⊥) → completes p ≡ stored.Done
@@ -31,12 +37,17 @@ taken (Belt at) something = refl
 taken (Timer at) something = refl
 taken Nothing something = absurd (something refl)
 
--- ---- a store that is granted, where nothing answers
+-- ---- a store that is granted, by the place of its physical address
 
 module _ (width : ℕ) (m : Memory) (value address physical slot : ℕ) (t : Translation) (p : Place) (bytes : ℕ) (same : bytes ≡ width)
     (granted : t ≡ Physical physical slot) (place : place_in bytes m physical ≡ p) where
   answer_of_lem : store_answer width m physical ≡ completes p
   answer_of_lem = ap (λ (n : ℕ). store_answer n m physical) (sym same) ∙ answer_at bytes m physical p place
+
+  pub store_done : completes p ≡ stored.Done → Store bytes physical value slot ≡ store_through width m value address t
+  store_done done =
+      ap (λ (n : ℕ). Store n physical value slot) same
+      ∙ sym (ap (store_through width m value address) granted ∙ ap (settled width physical value slot address) (answer_of_lem ∙ done))
 
   pub store_timeout : completes p ≡ stored.Timeout → Exception 16 address ≡ store_through width m value address t
   store_timeout out =

@@ -118,7 +118,7 @@ impl<'a> Surroundings<'a> {
     }
 
     // The number in 1, 2 or 4 bytes at a virtual address.
-    #[tactic(auto, using(crate::proofs::ReadFaults::read_fault), unfolding(crate::specs::Reads::read_from))]
+    #[tactic(auto, using(crate::proofs::ReadFaults::coded_read_fault), unfolding(crate::specs::Reads::read_from))]
     pub fn read<const BYTES: u32>(self, address: u32) -> Result<Fetched, Fault>
         ensures { read_of result ≡ read_from (access_width BYTES) (surroundings_of self.entry) address }
     {
@@ -130,7 +130,7 @@ impl<'a> Surroundings<'a> {
     }
 
     // The instruction word at the PC, whose page has the index `i`.
-    #[tactic(auto, using(crate::proofs::ReadFaults::read_fault), unfolding(crate::specs::Reads::read_from, memory::specs::Access::access_width))]
+    #[tactic(auto, using(crate::proofs::ReadFaults::coded_read_fault), unfolding(crate::specs::Reads::read_from, memory::specs::Access::access_width))]
     pub fn fetch(self, i: usize, pc: u32) -> Result<Fetched, Fault>
         requires { Serves self.highs.now i pc }
         ensures { read_of result ≡ read_from 4 (surroundings_of self.entry) pc }
@@ -151,7 +151,7 @@ impl<'a> Surroundings<'a> {
     }
 
     // A value to a virtual address: where it goes in memory, or the fault with its address.
-    #[tactic(auto, using(crate::proofs::WriteFaults::store_fault, crate::proofs::WriteFaults::taken), unfolding(crate::specs::Writes::store_to, memory::specs::Access::store_answer))]
+    #[tactic(auto, using(crate::proofs::WriteFaults::coded_store_fault, crate::proofs::WriteFaults::taken), unfolding(crate::specs::Writes::store_to, memory::specs::Access::store_answer))]
     pub fn store(self, width: Width, value: u32, address: u32) -> Coded
         ensures { action_of result ≡ store_to (bytes_of width) (surroundings_of self.entry) value address }
     {
