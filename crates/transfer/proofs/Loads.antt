@@ -11,30 +11,27 @@ use Rattle.translation.proofs.Slots.{former}
 use Rattle.access.specs.Writes.{store_to}
 use Rattle.instructions.specs.Operands.{Surroundings, Operands, Meaning, simple, illegal, field_y}
 use Rattle.instructions.specs.Action.{Action, Write}
-use Rattle.access.specs.declared.Fetched.{Fetched}
-use Rattle.access.specs.declared.Fault as declared
-use Rattle.access.specs.Code.{read_of}
-use Rattle.transfer.specs.Code.{Made}
-use Rattle.std.specs.Prelude.{Result, Ok, Err}
 use Rattle.transfer.specs.Transfer.{address_of, landed, load, store, transfers}
 
-extended : (extend : ℕ → ℕ) (function : ℕ → ℕ → Type 0) (number address next : ℕ) (r : Result Fetched declared.Fault) (v : ℕ)
-    → ((n m : ℕ) → function n m → m ≡ extend n) → Made function r v
-    → landed (λ n. v) number address next (read_of r) ≡ landed extend number address next (read_of r)
-extended extend function number address next (Ok at) v computes made = ap (λ (n : ℕ). Write number n next at.slot) (computes at.value v made)
-extended extend function number address next (Err fault) v computes made = refl
+-- a value that is known, into its register
+pub valued : (number next slot : ℕ) {v w : ℕ} → v ≡ w → Write number v next slot ≡ Write number w next slot
+valued number next slot e = ap (λ (v : ℕ). Write number v next slot) e
+
+pub lands : (extend : ℕ → ℕ) (number next width : ℕ) (s : Surroundings) (a b : ℕ) (r : Read) {action : Action}
+    → action ≡ landed extend number a next r → r ≡ read_from width s a → a ≡ b
+    → action ≡ landed extend number b next (read_from width s b)
+lands extend number next width s a b r h k e =
+    h ∙ ap (landed extend number a next) k ∙ ap (λ (n : ℕ). landed extend number n next (read_from width s n)) e
 
 -- an opcode's row, for a load of this width that is extended so, and for a store
 module _ (s : Surroundings) (o : Operands) {kind k a : ℕ} {action : Action} where
-  pub loads : (width : ℕ) (extend : ℕ → ℕ) (r : Result Fetched declared.Fault) {function : ℕ → ℕ → Type 0}
-      → kind ≡ k → load width extend s o ≡ get_or transfers k (simple illegal) s o → a ≡ address_of o → read_of r ≡ read_from width s a
-      → ((v : ℕ) × Made function r v × (action ≡ landed (λ n. v) (field_y o.word) a o.next (read_of r)))
-      → ((n m : ℕ) → function n m → m ≡ extend n)
+  pub loads : (width : ℕ) (extend : ℕ → ℕ) (r : Read)
+      → kind ≡ k → load width extend s o ≡ get_or transfers k (simple illegal) s o → a ≡ address_of o → r ≡ read_from width s a
+      → action ≡ landed extend (field_y o.word) a o.next r
       → action ≡ get_or transfers kind (simple illegal) s o
   unfolding load
-  loads width extend r {function} is row at brought (v, made, h) computes =
-      h ∙ extended extend function (field_y o.word) a o.next r v computes made ∙ ap (landed extend (field_y o.word) a o.next) brought
-      ∙ ap (λ (n : ℕ). landed extend (field_y o.word) n o.next (read_from width s n)) at
+  loads width extend r is row at brought h =
+      lands extend (field_y o.word) o.next width s a (address_of o) r h brought at
       ∙ row ∙ ap (λ (n : ℕ). get_or transfers n (simple illegal) s o) (sym is)
 
   pub stores : (width : ℕ) → kind ≡ k → store width s o ≡ get_or transfers k (simple illegal) s o → a ≡ address_of o

@@ -1,9 +1,6 @@
 -- A helper of the code's contracts. No definition names it.
-use Rattle.std.specs.Prelude.{Result, Ok, Err, ℕ}
-use Rattle.access.specs.declared.Fetched.{Fetched}
-use Rattle.access.specs.declared.Fault.{Fault}
+use Rattle.std.specs.Prelude.{◌≡◌, ℕ, ◌<◌, ◌^◌}
 
--- what a function makes of the value that was read, if one was
-abbrev pub Made : (ℕ → ℕ → Type 0) → Result Fetched Fault → ℕ → Type 0
-Made function (Ok at) v = function at.value v
-Made function (Err fault) v = Unit {0}
+-- a function of the code makes of each word what this one makes of it
+abbrev pub Computes : (ℕ → ℕ → Type 0) → (ℕ → ℕ) → Type 0
+Computes function extended = (v r : ℕ) → v < 2 ^ 32 → function v r → r ≡ extended v

@@ -5,7 +5,7 @@ ghost use Rattle.std.specs.Prelude.{◌≡◌, ℕ, get_or};
 ghost use Rattle.instructions.specs.Operands.{field_y, simple, illegal};
 ghost use Rattle.access.specs.Code.{surroundings_of, read_of};
 ghost use Rattle.transfer.specs.Transfer.{address_of, landed, transfers};
-ghost use Rattle.transfer.specs.Code.{Made};
+ghost use Rattle.transfer.specs.Code.{Computes};
 ghost use Rattle.instructions.specs.Code.{action_of, operands_of};
 
 use access::{Fault, Fetched, Surroundings};
@@ -27,8 +27,10 @@ fn land<F: Fn(u32) -> u32>(
     address: u32,
     o: Operands,
 ) -> Coded
-    requires { F.IsAlwaysCallable extend }
-    ensures { (v : ℕ) × Made (F.post extend) read v × (action_of result ≡ landed (λ read_value. v) (field_y o.word) address o.next (read_of read)) }
+    ghost extended: { ℕ → ℕ }
+    requires callable { F.IsAlwaysCallable extend }
+    requires computes { Computes (F.post extend) extended }
+    ensures { action_of result ≡ landed extended (field_y o.word) address o.next (read_of read) }
 {
     match read {
         Ok(at) => Coded::Write {
