@@ -2,8 +2,9 @@
 use mathlib.Core.Path.{◌≡◌, refl, ap, sym, ◌∙◌}
 use mathlib.Core.Bool.{cond}
 use mathlib.Core.List.{List}
-use Prim.Native.Nat.{ℕ, ◌+◌}
+use Prim.Native.Nat.{ℕ, ◌+◌, ◌≤◌}
 use native.Mathlib.Numerals.{add-one}
+use native.Mathlib.Omega.{arith}
 use lib.Dec.{leb}
 use borrow.Author.Tests.{lt-leb}
 use Rattle.tlb.specs.Found.{Serves}
@@ -21,8 +22,9 @@ use Rattle.actions.specs.Actions.{processor_after}
 use Rattle.timer.specs.Timer.{lines_with}
 use Rattle.machine.specs.Machine.{Machine}
 use Rattle.look.specs.Look.{look_from, opcode_from}
-use Rattle.step.specs.Step.{surroundings_of, look, opcode_fetched, done, eid_of, slot_of, completed_opcode, stepped, step_of}
+use Rattle.step.specs.Step.{surroundings_of, look, opcode_fetched, done, eid_of, slot_of, completed_opcode, Stepped, stepped, step_of}
 use Rattle.step.proofs.IndexLaws.{action_leaves}
+use Rattle.step.proofs.OpcodeLaws.{opcode_within}
 use Rattle.run_loop.specs.Run.{indexed}
 
 -- ---- the replacement index: a run on its way keeps an old one, and reckons it by the steps made
@@ -89,6 +91,10 @@ turned m n lines s {a} e told {opcode} o after =
     let same : opcode ≡ opcode_fetched m lines = o ∙ ap (opcode_from (surroundings_of m) m.processor.pc) s in
     ap (λ (k : Machine). stepped k (eid_of a) (slot_of a) (completed_opcode opcode a)) after
     ∙ (λ i. stepped (done m (looked i)) (eid_of (looked i)) (slot_of (looked i)) (completed_opcode (same i) (looked i)))
+
+-- so the opcode that it tells is an entry of a list of charges
+pub turned_within : (m n : Machine) (lines : ℕ) {eid slot opcode : ℕ} → stepped n eid slot opcode ≡ step_of m lines → opcode ≤ 64
+turned_within m n lines e = omega (arith, ap (λ (t : Stepped). t.event.opcode) e, opcode_within m lines)
 
 -- ---- an action of no other arm is a system instruction
 

@@ -1,7 +1,7 @@
 -- What holds before each turn of the loop, and what a turn makes of it.
 use mathlib.Core.Path.{◌≡◌, refl, ap, sym, ◌∙◌}
 use mathlib.Core.Bool.{true, false}
-use Prim.Native.Nat.{ℕ, ◌+◌, ◌*◌, ◌-◌, ◌≤◌, ◌<◌}
+use Prim.Native.Nat.{ℕ, ◌+◌, ◌*◌, ◌-◌, ◌^◌, ◌≤◌, ◌<◌}
 use native.Mathlib.Omega.{arith}
 use Rattle.machine.specs.Machine.{Machine}
 use Rattle.charges.specs.Charges.{charge_of}
@@ -16,6 +16,10 @@ pub record Going (q : Request) (began m : Machine) (steps eid slot total : ℕ) 
   pub rest : run_from q q.wanted (begun began 0) ≡ run_from q (q.wanted - steps) (outcome m 0 steps 32 slot total)
   -- so the sum fits in 64 bits
   pub within : total ≤ steps * 65535
+
+pub room : {q : Request} {began m : Machine} {steps eid slot total : ℕ} → Going q began m steps eid slot total → steps < q.wanted
+    → q.wanted < 2 ^ 32 → total < 2 ^ 63
+room g more fits = omega (arith, g.within)
 
 -- it holds of the machine that the run begins with
 pub started : (q : Request) (began : Machine) {m : Machine} → m ≡ began → {made : ℕ} → made ≡ 0 → Going q began m made 32 33 0

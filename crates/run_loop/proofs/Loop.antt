@@ -6,7 +6,7 @@ use Prim.Native.Nat.{ℕ, suc, ◌+◌, ◌-◌, ◌≤◌, ◌<◌}
 use native.Mathlib.Numerals.{add-one}
 use native.Mathlib.Omega.{arith}
 use lib.Dec.{eqb}
-use borrow.Author.Tests.{lt-ltb, eqb-true}
+use borrow.Author.Tests.{lt-ltb, le-ltb, eqb-true}
 use Rattle.words.proofs.Counts.{left, over}
 use Rattle.machine.specs.Machine.{Machine}
 use Rattle.step.specs.Step.{step_of}
@@ -15,7 +15,16 @@ use Rattle.charges.specs.Charges.{charge_of}
 use Rattle.refusals.specs.Request.{Request}
 use Rattle.run_loop.specs.Run.{Outcome, outcome, ends, steps_from, steps_of, counted, counted_all, begun, run_of, run_from}
 
--- ---- an exception is the last step of a run to exception
+-- ---- whether a step is the last
+
+pub plain_goes_on : (kind : Bool) (eid : ℕ) → kind ≡ false → ends kind eid ≡ false
+unfolding ends
+plain_goes_on kind eid e = rw e
+
+pub none_goes_on : (kind : Bool) → ends kind 32 ≡ false
+unfolding ends
+none_goes_on true = le-ltb 32 32 (omega arith)
+none_goes_on false = refl
 
 pub exception_ends : (kind : Bool) (eid : ℕ) → kind ≡ true → eid < 32 → ends kind eid ≡ true
 unfolding ends
@@ -56,6 +65,9 @@ run_is q m = go (eqb r 0) refl
     go false e = refl
 
 -- ---- the turns
+
+pub one_less : (n i : ℕ) → i < n → n - (i + 1) < n - i
+one_less n i h = omega arith
 
 module _ (q : Request) (made : ℕ) (m : Machine) where
   module _ (slot total : ℕ) (n : Machine) (eid told cost : ℕ) (e : n ≡ (step_of m q.lines).machine) (f : eid ≡ (step_of m q.lines).event.eid)

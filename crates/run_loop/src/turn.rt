@@ -67,8 +67,7 @@ impl Progress {
         ensures action { let p = self.now.state.processor in
             action_of result.action ≡ look_from (around p.psw p.tlbhigh p.tlblow timer ram.now rom.now belt.now) p.registers p.pc (lines_with timer lines) }
         ensures opcode { let p = self.now.state.processor in
-            (result.opcode ≡ opcode_from (around p.psw p.tlbhigh p.tlblow timer ram.now rom.now belt.now) p.pc (lines_with timer lines))
-            × (result.opcode ≤ 64) }
+            result.opcode ≡ opcode_from (around p.psw p.tlbhigh p.tlblow timer ram.now rom.now belt.now) p.pc (lines_with timer lines) }
     {
         let processor = &self.state.processor;
         let surroundings = Surroundings {

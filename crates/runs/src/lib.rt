@@ -13,7 +13,7 @@ use run_loop::Ran;
 
 // A plain run makes exactly the wanted steps; one to exception ends after the first step that accepts an exception, or after the wanted steps. A
 // refused run leaves the memory as it was. RAM, ROM and belt are parameters as of `run_loop::advance`.
-#[tactic(auto, using(crate::proofs::Refused::run_refused, crate::proofs::Refused::run_accepted))]
+#[tactic(auto, using(crate::proofs::Refused::coded_run_refused, crate::proofs::Refused::coded_run_accepted))]
 pub fn run(
     state: State,
     ram: &mut [u8],
