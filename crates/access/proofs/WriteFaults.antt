@@ -37,6 +37,8 @@ taken (Belt at) something = refl
 taken (Timer at) something = refl
 taken Nothing something = absurd (something refl)
 
+pub ruleset coded_store = (coded_store_fault, taken)
+
 -- ---- a store that is granted, by the place of its physical address
 
 module _ (width : ℕ) (m : Memory) (value address physical slot : ℕ) (t : Translation) (p : Place) (bytes : ℕ) (same : bytes ≡ width)

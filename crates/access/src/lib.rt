@@ -151,7 +151,7 @@ impl<'a> Surroundings<'a> {
     }
 
     // A value to a virtual address: where it goes in memory, or the fault with its address.
-    #[tactic(auto, using(crate::proofs::WriteFaults::coded_store_fault, crate::proofs::WriteFaults::taken), unfolding(crate::specs::Writes::store_to, memory::specs::Access::store_answer))]
+    #[tactic(auto, using(crate::proofs::WriteFaults::coded_store), unfolding(crate::specs::Writes::store_to, memory::specs::Access::store_answer))]
     pub fn store(self, width: Width, value: u32, address: u32) -> Coded
         ensures { action_of result ≡ store_to (bytes_of width) (surroundings_of self.entry) value address }
     {

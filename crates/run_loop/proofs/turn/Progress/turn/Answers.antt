@@ -44,9 +44,9 @@ pub returns-in_default : goal.returns-in_default
 returns-in_default c =
     let (i, told) = other_is_system c.look-looked.result.action c.in_default.not-Write c.in_default.not-Store c.in_default.not-Exception in
     let event =
-        turned _ _ _ refl c.look-looked.ensures.action told c.look-looked.ensures.opcode
-        (joined (leaves _ _ _ _ (System i) c.replacement_after-self.ensures (c.done.ensures ∙ ap (processor_after _) told))
-        c.tick.ensures refl) in
+    turned _ _ _ refl c.look-looked.ensures.action told c.look-looked.ensures.opcode
+    (joined (leaves _ _ _ _ (System i) c.replacement_after-self.ensures (c.done.ensures ∙ ap (processor_after _) told))
+    c.tick.ensures refl) in
     record {
       made = refl;
       found = c.first-self.ensures.1;
