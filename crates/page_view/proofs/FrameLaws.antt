@@ -4,7 +4,7 @@ use mathlib.Core.Bool.{Bool, true, false, true≢false}
 use mathlib.Core.List.{List, []}
 use Prim.Native.Nat.{ℕ, ◌+◌, ◌*◌, ◌-◌, ◌%◌, ◌≤◌, ◌<◌}
 use native.Mathlib.Omega.{arith}
-use native.Mathlib.Nat.{add-sub_cancel_left}
+use native.Mathlib.Nat.{add-zero, add_comm, add-sub_cancel_left}
 use lib.Dec.{leb, ltb, eqb}
 use lib.ListN.{length, take, drop, length-drop}
 use lib.Seq.{length-take-le}
@@ -21,7 +21,7 @@ use Rattle.words.proofs.Conjunction.{both_true}
 use Rattle.tlb.specs.Lookup.{no_slot}
 use Rattle.translation.specs.Translation.{physical_of, translation_slot}
 use Rattle.page_view.specs.View.{kernel_mode, looked_up, in_ram, has_frame, view_tests, view_refusal, viewed, view_of}
-use Rattle.page_view.specs.Part.{view_part}
+use Rattle.page_view.specs.Part.{view_part, part_ptr}
 use Rattle.page_view.proofs.Answers.{the_refusal, the_offset, the_size}
 use Rattle.page_view.proofs.Lookup.{frame_start}
 
@@ -108,6 +108,10 @@ module _ (ram : List ℕ) (p : Processor) (page : ℕ) where
         ap (λ (k : ℕ). take k (drop y ram)) (add-sub_cancel_left y z ∙ the_size ram p page e ∙ length_is ok)
         ∙ ap (λ (k : ℕ). take 4096 (drop k ram)) (the_offset ram p page e) ∙ sym (part_is ok)
 
+    pub frame_pointer : (start : ℕ × ℕ) → ◌≡◌ {A = ℕ × ℕ} (start.0, y + start.1) (part_ptr start ram p page)
+    frame_pointer start =
+        ap {B = ℕ × ℕ} (λ (k : ℕ). (start.0, k)) (add_comm y start.1 ∙ ap (λ (k : ℕ). start.1 + k) (the_offset ram p page e))
+
   -- ---- a refused view
 
   module _ (no : view_refusal ram p page ≡ 0 → ⊥) where
@@ -126,6 +130,12 @@ module _ (ram : List ℕ) (p : Processor) (page : ℕ) where
     pub no_part : view_part ram p page ≡ []
     unfolding view_part
     no_part = simp (ne_eqb _ 0 no)
+
+    pub empty_part : (start : ℕ × ℕ) → ([] ≡ view_part ram p page) × (start ≡ part_ptr start ram p page)
+    empty_part start = (
+      sym no_part,
+      ap {B = ℕ × ℕ} (λ (k : ℕ). (start.0, k)) (sym (ap (λ (k : ℕ). start.1 + k) no_offset ∙ add-zero start.1)),
+    )
 
   -- ---- the slot is 33 exactly where the view is refused
 

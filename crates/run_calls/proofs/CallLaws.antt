@@ -32,6 +32,12 @@ use Rattle.run_loop.specs.Run.{answer, Outcome, begun, steps_from, run_from}
 use Rattle.run_loop.proofs.Loop.{no_step}
 use Rattle.run_loop.proofs.Kept.{run_fit, run_timer_fits}
 use Rattle.run_calls.specs.Runs.{call_tests, call_refusal, Called, called, machine_in, recorded, call_steps, call_of}
+use Rattle.run_calls.specs.Code.{first_of}
+
+-- the numbers of a refused call
+pub answers : (s : List ℕ) (m : Memory) {x y z w v r : ℕ} → (x ≡ r) × (y ≡ 0) × (z ≡ 32) × (w ≡ 33) × (v ≡ 0)
+    → called s m x y z w v ≡ called s m r 0 32 33 0
+answers s m e = rw (e.0, e.1, e.2, e.3, e.4)
 
 -- ---- an accepted call passes every test
 
@@ -75,12 +81,22 @@ module _ (s : List ℕ) (m : Memory) (q : Request) where
       joined (memory_tests m) (machine_tests s ++ last) refl
       ∙ ap (λ (n : ℕ). cond (eqb (first_failed (memory_tests m)) 0) n (first_failed (memory_tests m))) (joined (machine_tests s) last refl)
 
-  pub refused_call : {number : ℕ} → number ≡ call_refusal s m q → (number ≡ 0 → ⊥) → called s m number 0 32 33 0 ≡ call_of q s m
+  pub refused_number : {number : ℕ} → number ≡ call_refusal s m q → (number ≡ 0 → ⊥) → called s m number 0 32 33 0 ≡ call_of q s m
   unfolding call_of
-  refused_call {number} f h = rw (← f) (simp (ne_eqb number 0 h))
+  refused_number {number} f h = rw (← f) (simp (ne_eqb number 0 h))
+
+  -- the same, by the numbers of the three parts
+  module _ {l r t number : ℕ} (lengths : l ≡ first_failed (memory_tests m)) (read : r ≡ machine_refusal s)
+      (asked : t ≡ first_failed (request_tests q.wanted q.charging)) (first : number ≡ first_of l (first_of r t)) where
+    is_number : number ≡ call_refusal s m q
+    unfolding first_of
+    is_number = first ∙ rw (lengths, read, asked) (sym by_parts)
+
+    pub refused_call : (number ≡ 0 → ⊥) → called s m number 0 32 33 0 ≡ call_of q s m
+    refused_call h = refused_number is_number h
 
   by_refusal : (e : Refusal) → refusal_number e ≡ call_refusal s m q → called s m (refusal_number e) 0 32 33 0 ≡ call_of q s m
-  by_refusal e f = refused_call f (never_accepted e)
+  by_refusal e f = refused_number f (never_accepted e)
 
   pub lengths_refused : (e : Refusal) → refusal_number e ≡ first_failed (memory_tests m) → called s m (refusal_number e) 0 32 33 0 ≡ call_of q s m
   lengths_refused e l = by_refusal e (sym (by_parts ∙ rw (← l) (simp (ne_eqb (refusal_number e) 0 (never_accepted e)))))
