@@ -39,6 +39,39 @@ pub answers : (s : List ℕ) (m : Memory) {x y z w v r : ℕ} → (x ≡ r) × (
     → called s m x y z w v ≡ called s m r 0 32 33 0
 answers s m e = rw (e.0, e.1, e.2, e.3, e.4)
 
+-- ---- a record that is read: its size, and that the machine after the run can be written
+
+module _ (s : List ℕ) (r : 0 ≡ machine_refusal s) where
+  read_passed : AllPass (machine_tests s)
+  unfolding machine_refusal
+  read_passed = all_pass (machine_tests s) refl (sym r)
+
+  pub size_of_read : length s ≡ 424
+  size_of_read = eqb-true _ _ read_passed.0
+
+  fits_read : (fit (processor_of s) ≡ true) × (timer_fit (timer_of s) ≡ true)
+  fits_read = both_fit (processor_of s) (timer_of s) read_passed.1.1.0
+
+  module _ (m : Memory) (q : Request) {p : Processor} (f : p ≡ processor_unless (machine_refusal s) s) {u : Timer}
+      (g : u ≡ timer_unless (machine_refusal s) s) {o : Outcome} (h : o ≡ run_from q q.wanted (begun (record { processor = p; timer = u; memory = m }) 0)) where
+    -- the machine that was read is the record's
+    run_of_read : o ≡ run_from q q.wanted (begun (machine_in s m) 0)
+    run_of_read =
+        let processor_read : p ≡ processor_of s = f ∙ ap (λ (n : ℕ). processor_unless n s) (sym r) in
+        let timer_read_lem : u ≡ timer_of s = g ∙ ap (λ (n : ℕ). timer_unless n s) (sym r) in
+        h ∙ (λ i. run_from q q.wanted (begun (record { processor = processor_read i; timer = timer_read_lem i; memory = m }) 0))
+
+    pub left_index : o.machine.processor.replacement < 256
+    left_index =
+        let end = (run_fit q q.wanted (begun (machine_in s m) 0) (fit_means (processor_of s) fits_read.0)).upto in
+        omega (arith, end, ap (λ (q : Outcome). q.machine.processor.replacement) run_of_read)
+
+    pub left_control : o.machine.timer.control < 256
+    unfolding timer_fit
+    left_control =
+        let end = run_timer_fits q q.wanted (begun (machine_in s m) 0) (leb-true (timer_of s).control 3 fits_read.1) in
+        omega (arith, end, ap (λ (q : Outcome). q.machine.timer.control) run_of_read)
+
 -- ---- an accepted call passes every test
 
 module _ (s : List ℕ) (m : Memory) (q : Request) (accepted : call_refusal s m q ≡ 0) where
@@ -125,13 +158,8 @@ module _ (s : List ℕ) (m : Memory) (q : Request) where
 
         module _ {p : Processor} (f : p ≡ processor_unless (machine_refusal s) s) {u : Timer} (g : u ≡ timer_unless (machine_refusal s) s)
             {o : Outcome} (h : o ≡ run_from q q.wanted (begun (record { processor = p; timer = u; memory = m }) 0)) where
-          -- the machine that was read is the record's
           same : o ≡ run_from q q.wanted (begun (machine_in s m) 0)
-          same =
-              let number = machine_accepted s m q none in
-              let processor_read : p ≡ processor_of s = f ∙ ap (λ (n : ℕ). processor_unless n s) number in
-              let timer_read_lem : u ≡ timer_of s = g ∙ ap (λ (n : ℕ). timer_unless n s) number in
-              h ∙ (λ i. run_from q q.wanted (begun (record { processor = processor_read i; timer = timer_read_lem i; memory = m }) 0))
+          same = run_of_read s r m q f g h
 
           -- the outcome, with the buffer as it was written
           pub call_written : {b : List ℕ} → b ≡ record_of o.machine.processor o.machine.timer
@@ -139,16 +167,11 @@ module _ (s : List ℕ) (m : Memory) (q : Request) where
           unfolding call_of
           call_written e = (λ i. record { buffer = e i; memory = o.machine.memory; answer = o.answer }) ∙ rw none (ap recorded same)
 
-          -- the machine after it can be written
           pub run_index : o.machine.processor.replacement < 256
-          run_index =
-              let end = (run_fit q q.wanted (begun (machine_in s m) 0) (read_fits s m q none)).upto in
-              omega (arith, end, ap (λ (q : Outcome). q.machine.processor.replacement) same)
+          run_index = left_index s r m q f g h
 
           pub run_control : o.machine.timer.control < 256
-          run_control =
-              let end = run_timer_fits q q.wanted (begun (machine_in s m) 0) (timer_fits s m q none) in
-              omega (arith, end, ap (λ (q : Outcome). q.machine.timer.control) same)
+          run_control = left_control s r m q f g h
 
 -- ---- zero steps change nothing
 
