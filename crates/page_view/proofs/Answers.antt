@@ -97,6 +97,9 @@ module _ (ram : List ℕ) (p : Processor) (page : ℕ) where
     unfolding view_of
     the_refusal = ap (λ (v : Viewed). v.refusal) e ∙ viewed_refusal (view_refusal ram p page) (looked_up p page)
 
+    pub the_slot : i ≡ (view_of ram p page).slot
+    the_slot = ap (λ (v : Viewed). v.slot) e
+
     pub the_offset : y ≡ (view_of ram p page).offset
     the_offset = ap (λ (v : Viewed). v.offset) e
 

@@ -4,24 +4,29 @@ use mathlib.Core.Bool.{Bool, true, false, true≢false}
 use mathlib.Core.List.{List, []}
 use Prim.Native.Nat.{ℕ, ◌+◌, ◌*◌, ◌-◌, ◌%◌, ◌≤◌, ◌<◌}
 use native.Mathlib.Omega.{arith}
-use native.Mathlib.Nat.{add-sub_cancel_left}
+use native.Mathlib.Nat.{add-zero, add_comm, add-sub_cancel_left}
 use lib.Dec.{leb, ltb, eqb}
 use lib.ListN.{length, take, drop, length-drop}
 use lib.Seq.{length-take-le}
 use borrow.Author.Tests.{eq-eqb, ne_eqb, ltb-true, eqb-true}
+use Rattle.std.specs.Prelude.{Result, Ok, Err}
+use Rattle.std.specs.Result.{result_unwrap_or}
 use Rattle.words.specs.Logic.{both, Exactly}
 use Rattle.processor.specs.declared.Processor.{Processor}
 use Rattle.translation.specs.Translation.{Translation, Physical}
 use Rattle.translation.proofs.Resolved.{walk}
 use Rattle.translation.proofs.Slots.{slot_below}
 use Rattle.refusals.specs.Refusal.{ram_accepted, pages_up_to}
+use Rattle.refusals.specs.declared.Refusal.{Refusal}
 use Rattle.refusals.proofs.FirstFailed.{all_pass}
 use Rattle.words.specs.Lists.{Every}
 use Rattle.words.proofs.Conjunction.{both_true}
 use Rattle.tlb.specs.Lookup.{no_slot}
 use Rattle.translation.specs.Translation.{physical_of, translation_slot}
 use Rattle.page_view.specs.View.{kernel_mode, looked_up, in_ram, has_frame, view_tests, view_refusal, viewed, view_of}
-use Rattle.page_view.specs.Part.{view_part}
+use Rattle.page_view.specs.Part.{view_part, part_ptr}
+use Rattle.page_view.specs.declared.Frame.{Frame}
+use Rattle.page_view.specs.Code.{viewed_as}
 use Rattle.page_view.proofs.Answers.{the_refusal, the_offset, the_size}
 use Rattle.page_view.proofs.Lookup.{frame_start}
 
@@ -108,6 +113,10 @@ module _ (ram : List ℕ) (p : Processor) (page : ℕ) where
         ap (λ (k : ℕ). take k (drop y ram)) (add-sub_cancel_left y z ∙ the_size ram p page e ∙ length_is ok)
         ∙ ap (λ (k : ℕ). take 4096 (drop k ram)) (the_offset ram p page e) ∙ sym (part_is ok)
 
+    pub frame_pointer : (start : ℕ × ℕ) → ◌≡◌ {A = ℕ × ℕ} (start.0, y + start.1) (part_ptr start ram p page)
+    frame_pointer start =
+        ap {B = ℕ × ℕ} (λ (k : ℕ). (start.0, k)) (add_comm y start.1 ∙ ap (λ (k : ℕ). start.1 + k) (the_offset ram p page e))
+
   -- ---- a refused view
 
   module _ (no : view_refusal ram p page ≡ 0 → ⊥) where
@@ -127,8 +136,35 @@ module _ (ram : List ℕ) (p : Processor) (page : ℕ) where
     unfolding view_part
     no_part = simp (ne_eqb _ 0 no)
 
+    pub empty_part : (start : ℕ × ℕ) → ([] ≡ view_part ram p page) × (start ≡ part_ptr start ram p page)
+    empty_part start = (
+      sym no_part,
+      ap {B = ℕ × ℕ} (λ (k : ℕ). (start.0, k)) (sym (ap (λ (k : ℕ). start.1 + k) no_offset ∙ add-zero start.1)),
+    )
+
   -- ---- the slot is 33 exactly where the view is refused
 
   pub slot_exactly : Exactly ((view_of ram p page).slot ≡ no_slot) (view_refusal ram p page ≡ 0 → ⊥)
   unfolding looked_up
   slot_exactly = (λ e ok. omega (arith, e, slot_below kernel_mode p.tlbhigh p.tlblow 1 false (page * 4096) _ _ (first_byte ok)), no_slot_lem)
+
+-- ---- a frame that is one of two: it lies in RAM, and its part is that of the page asked for only if both are of that page
+
+module _ (ram : List ℕ) (p : Processor) (page other : ℕ) (f : Frame) (e : viewed_as (Ok f) ≡ view_of ram p page) where
+  one_fits : (r : Result Frame Refusal) → viewed_as r ≡ view_of ram p other
+      → (result_unwrap_or r f).offset + (result_unwrap_or r f).length ≤ length ram
+  one_fits (Ok g) h = lies_in_ram ram p other h refl
+  one_fits (Err x) h = lies_in_ram ram p page e refl
+
+  one_part : (r : Result Frame Refusal) → viewed_as r ≡ view_of ram p other → other ≡ page
+      → take ((result_unwrap_or r f).offset + (result_unwrap_or r f).length - (result_unwrap_or r f).offset) (drop (result_unwrap_or r f).offset ram)
+      ≡ view_part ram p page
+  one_part (Ok g) h same = frame_part ram p other h refl ∙ ap (view_part ram p) same
+  one_part (Err x) h same = frame_part ram p page e refl
+
+  module _ (r : Result Frame Refusal) (h : viewed_as r ≡ view_of ram p other) (g : Frame) (made : g ≡ result_unwrap_or r f) where
+    pub either_fits : g.offset + g.length ≤ length ram
+    either_fits = subst (λ (g : Frame). g.offset + g.length ≤ length ram) (sym made) (one_fits r h)
+
+    pub either_part : other ≡ page → take (g.offset + g.length - g.offset) (drop g.offset ram) ≡ view_part ram p page
+    either_part same = ap (λ (g : Frame). take (g.offset + g.length - g.offset) (drop g.offset ram)) made ∙ one_part r h same

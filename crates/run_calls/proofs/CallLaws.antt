@@ -32,6 +32,45 @@ use Rattle.run_loop.specs.Run.{answer, Outcome, begun, steps_from, run_from}
 use Rattle.run_loop.proofs.Loop.{no_step}
 use Rattle.run_loop.proofs.Kept.{run_fit, run_timer_fits}
 use Rattle.run_calls.specs.Runs.{call_tests, call_refusal, Called, called, machine_in, recorded, call_steps, call_of}
+use Rattle.run_calls.specs.Code.{first_of}
+
+-- the numbers of a refused call
+pub answers : (s : List ℕ) (m : Memory) {x y z w v r : ℕ} → (x ≡ r) × (y ≡ 0) × (z ≡ 32) × (w ≡ 33) × (v ≡ 0)
+    → called s m x y z w v ≡ called s m r 0 32 33 0
+answers s m e = rw (e.0, e.1, e.2, e.3, e.4)
+
+-- ---- a record that is read: its size, and that the machine after the run can be written
+
+module _ (s : List ℕ) (r : 0 ≡ machine_refusal s) where
+  read_passed : AllPass (machine_tests s)
+  unfolding machine_refusal
+  read_passed = all_pass (machine_tests s) refl (sym r)
+
+  pub size_of_read : length s ≡ 424
+  size_of_read = eqb-true _ _ read_passed.0
+
+  fits_read : (fit (processor_of s) ≡ true) × (timer_fit (timer_of s) ≡ true)
+  fits_read = both_fit (processor_of s) (timer_of s) read_passed.1.1.0
+
+  module _ (m : Memory) (q : Request) {p : Processor} (f : p ≡ processor_unless (machine_refusal s) s) {u : Timer}
+      (g : u ≡ timer_unless (machine_refusal s) s) {o : Outcome} (h : o ≡ run_from q q.wanted (begun (record { processor = p; timer = u; memory = m }) 0)) where
+    -- the machine that was read is the record's
+    run_of_read : o ≡ run_from q q.wanted (begun (machine_in s m) 0)
+    run_of_read =
+        let processor_read : p ≡ processor_of s = f ∙ ap (λ (n : ℕ). processor_unless n s) (sym r) in
+        let timer_read_lem : u ≡ timer_of s = g ∙ ap (λ (n : ℕ). timer_unless n s) (sym r) in
+        h ∙ (λ i. run_from q q.wanted (begun (record { processor = processor_read i; timer = timer_read_lem i; memory = m }) 0))
+
+    pub left_index : o.machine.processor.replacement < 256
+    left_index =
+        let end = (run_fit q q.wanted (begun (machine_in s m) 0) (fit_means (processor_of s) fits_read.0)).upto in
+        omega (arith, end, ap (λ (q : Outcome). q.machine.processor.replacement) run_of_read)
+
+    pub left_control : o.machine.timer.control < 256
+    unfolding timer_fit
+    left_control =
+        let end = run_timer_fits q q.wanted (begun (machine_in s m) 0) (leb-true (timer_of s).control 3 fits_read.1) in
+        omega (arith, end, ap (λ (q : Outcome). q.machine.timer.control) run_of_read)
 
 -- ---- an accepted call passes every test
 
@@ -75,12 +114,22 @@ module _ (s : List ℕ) (m : Memory) (q : Request) where
       joined (memory_tests m) (machine_tests s ++ last) refl
       ∙ ap (λ (n : ℕ). cond (eqb (first_failed (memory_tests m)) 0) n (first_failed (memory_tests m))) (joined (machine_tests s) last refl)
 
-  pub refused_call : {number : ℕ} → number ≡ call_refusal s m q → (number ≡ 0 → ⊥) → called s m number 0 32 33 0 ≡ call_of q s m
+  pub refused_number : {number : ℕ} → number ≡ call_refusal s m q → (number ≡ 0 → ⊥) → called s m number 0 32 33 0 ≡ call_of q s m
   unfolding call_of
-  refused_call {number} f h = rw (← f) (simp (ne_eqb number 0 h))
+  refused_number {number} f h = rw (← f) (simp (ne_eqb number 0 h))
+
+  -- the same, by the numbers of the three parts
+  module _ {l r t number : ℕ} (lengths : l ≡ first_failed (memory_tests m)) (read : r ≡ machine_refusal s)
+      (asked : t ≡ first_failed (request_tests q.wanted q.charging)) (first : number ≡ first_of l (first_of r t)) where
+    is_number : number ≡ call_refusal s m q
+    unfolding first_of
+    is_number = first ∙ rw (lengths, read, asked) (sym by_parts)
+
+    pub refused_call : (number ≡ 0 → ⊥) → called s m number 0 32 33 0 ≡ call_of q s m
+    refused_call h = refused_number is_number h
 
   by_refusal : (e : Refusal) → refusal_number e ≡ call_refusal s m q → called s m (refusal_number e) 0 32 33 0 ≡ call_of q s m
-  by_refusal e f = refused_call f (never_accepted e)
+  by_refusal e f = refused_number f (never_accepted e)
 
   pub lengths_refused : (e : Refusal) → refusal_number e ≡ first_failed (memory_tests m) → called s m (refusal_number e) 0 32 33 0 ≡ call_of q s m
   lengths_refused e l = by_refusal e (sym (by_parts ∙ rw (← l) (simp (ne_eqb (refusal_number e) 0 (never_accepted e)))))
@@ -109,13 +158,8 @@ module _ (s : List ℕ) (m : Memory) (q : Request) where
 
         module _ {p : Processor} (f : p ≡ processor_unless (machine_refusal s) s) {u : Timer} (g : u ≡ timer_unless (machine_refusal s) s)
             {o : Outcome} (h : o ≡ run_from q q.wanted (begun (record { processor = p; timer = u; memory = m }) 0)) where
-          -- the machine that was read is the record's
           same : o ≡ run_from q q.wanted (begun (machine_in s m) 0)
-          same =
-              let number = machine_accepted s m q none in
-              let processor_read : p ≡ processor_of s = f ∙ ap (λ (n : ℕ). processor_unless n s) number in
-              let timer_read_lem : u ≡ timer_of s = g ∙ ap (λ (n : ℕ). timer_unless n s) number in
-              h ∙ (λ i. run_from q q.wanted (begun (record { processor = processor_read i; timer = timer_read_lem i; memory = m }) 0))
+          same = run_of_read s r m q f g h
 
           -- the outcome, with the buffer as it was written
           pub call_written : {b : List ℕ} → b ≡ record_of o.machine.processor o.machine.timer
@@ -123,16 +167,11 @@ module _ (s : List ℕ) (m : Memory) (q : Request) where
           unfolding call_of
           call_written e = (λ i. record { buffer = e i; memory = o.machine.memory; answer = o.answer }) ∙ rw none (ap recorded same)
 
-          -- the machine after it can be written
           pub run_index : o.machine.processor.replacement < 256
-          run_index =
-              let end = (run_fit q q.wanted (begun (machine_in s m) 0) (read_fits s m q none)).upto in
-              omega (arith, end, ap (λ (q : Outcome). q.machine.processor.replacement) same)
+          run_index = left_index s r m q f g h
 
           pub run_control : o.machine.timer.control < 256
-          run_control =
-              let end = run_timer_fits q q.wanted (begun (machine_in s m) 0) (timer_fits s m q none) in
-              omega (arith, end, ap (λ (q : Outcome). q.machine.timer.control) same)
+          run_control = left_control s r m q f g h
 
 -- ---- zero steps change nothing
 

@@ -1,19 +1,17 @@
 -- `run_calls::call` meets its contract, by the laws of CallLaws.
 use Rattle.memory.specs.Map.{memory}
 use Rattle.refusals.specs.Code.{asked}
-use Rattle.run_calls.proofs.CallLaws.{record_size, call_written, run_index, run_control}
+use Rattle.run_calls.proofs.CallLaws.{size_of_read, left_index, left_control, call_written}
 use Rattle.run_calls.proofs.call.Goals as goal
 
 pub put-requires : goal.put-requires
 put-requires c =
     let q = asked c.args.request in
     let m = memory c.args.ram.now c.args.rom.now c.args.belt.now in
-    let lengths = c.in_ok-of_lengths.ensures in
-    let read = c.in_ok-state.ensures in
-    let request = c.in_ok-of_request.ensures in (
-      record_size _ m q lengths read.refusal request,
-      run_index _ m q lengths read.refusal request read.processor read.timer c.advance-ran.ensures,
-      run_control _ m q lengths read.refusal request read.processor read.timer c.advance-ran.ensures,
+    let read = c.in_ok-state.ensures in (
+      size_of_read _ read.refusal,
+      left_index _ read.refusal m q read.processor read.timer c.advance-ran.ensures,
+      left_control _ read.refusal m q read.processor read.timer c.advance-ran.ensures,
     )
 
 pub returns : goal.returns
