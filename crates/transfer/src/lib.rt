@@ -5,7 +5,8 @@ ghost use Rattle.std.specs.Prelude.{◌≡◌, ℕ, get_or};
 ghost use Rattle.instructions.specs.Operands.{field_y, simple, illegal};
 ghost use Rattle.access.specs.Code.{surroundings_of, read_of};
 ghost use Rattle.transfer.specs.Transfer.{address_of, landed, transfers};
-ghost use Rattle.transfer.specs.Code.{Computes};
+ghost use Rattle.transfer.specs.Code.{Computes, stored_bytes};
+ghost use Rattle.translation.specs.Translation.{bytes_of};
 ghost use Rattle.instructions.specs.Code.{action_of, operands_of};
 
 use access::{Fault, Fetched, Surroundings};
@@ -46,7 +47,19 @@ fn land<F: Fn(u32) -> u32>(
     }
 }
 
-// Opcodes 30 to 37, counted from 0.
+// The width of a store, by the opcode counted from LDW: STW, STH, STB.
+#[tactic(auto, unfolding(crate::specs::Code::stored_bytes))]
+fn stored(kind: u32) -> Width
+    ensures { bytes_of result ≡ stored_bytes kind }
+{
+    match kind {
+        5 => Width::Word,
+        6 => Width::Half,
+        _ => Width::Byte,
+    }
+}
+
+// Opcodes 30 to 37, counted from 0. One call makes the three stores: of three the compiler makes a function that is called (docs/SPEED.md).
 pub fn transfer<'a>(s: Surroundings<'a>, kind: u32, o: Operands) -> Coded
     ensures { action_of result ≡ get_or transfers kind (simple illegal) (surroundings_of s.entry) (operands_of o) }
 {
@@ -57,9 +70,7 @@ pub fn transfer<'a>(s: Surroundings<'a>, kind: u32, o: Operands) -> Coded
         2 => land(s.read::<2>(address), zero_extend::<16>, address, o),
         3 => land(s.read::<1>(address), sign_extend::<8>, address, o),
         4 => land(s.read::<1>(address), zero_extend::<8>, address, o),
-        5 => s.store(Width::Word, o.y, address),
-        6 => s.store(Width::Half, o.y, address),
-        7 => s.store(Width::Byte, o.y, address),
+        5..=7 => s.store(stored(kind), o.y, address),
         _ => o.illegal(),
     }
 }

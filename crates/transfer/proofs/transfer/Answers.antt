@@ -37,17 +37,8 @@ returns-in-4 c =
     loads _ _ 1 (zero_extend 8) _ c.in-4.is refl c.address_of-address.ensures c.read-in-4.ensures
     c.land-in-4.ensures
 
-pub returns-in-5 : goal.returns-in-5
-unfolding transfers
-returns-in-5 c = stores _ _ 4 c.in-5.is refl c.address_of-address.ensures c.store.ensures
-
-pub returns-in-6 : goal.returns-in-6
-unfolding transfers
-returns-in-6 c = stores _ _ 2 c.in-6.is refl c.address_of-address.ensures c.store-in-6.ensures
-
-pub returns-in-7 : goal.returns-in-7
-unfolding transfers
-returns-in-7 c = stores _ _ 1 c.in-7.is refl c.address_of-address.ensures c.store-in-7.ensures
+pub returns-in-5-to-7 : goal.returns-in-5-to-7
+returns-in-5-to-7 c = stores _ _ c.args.kind c.store.ensures c.stored.ensures c.address_of-address.ensures (omega arith) (omega arith)
 
 pub returns-in_default : goal.returns-in_default
 returns-in_default c = c.illegal.ensures ∙ none_left _ _ _ (omega arith)
