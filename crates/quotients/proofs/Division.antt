@@ -1,9 +1,10 @@
 -- The signed quotient and remainder by i32, as the code computes them, and by the magnitudes of the operands.
-use Rattle.std.proofs.Common.{◌≡◌, ℕ, ◌+◌, ◌-◌, ◌/◌, ◌%◌, ◌^◌, ◌<◌, ◌≤◌, ℤ, pos, negsuc, neg_ℤ, nat_abs, sym, refl, ap, ◌∙◌, le_of_lt, div-le_self, arith, le-leb}
-use native.Mathlib.Nat.{mod-le, mod-zero, div-zero}
-use lib.Signed.{quot_z, rem_z}
+use Rattle.std.proofs.Common.{◌≡◌, ℕ, ◌+◌, ◌-◌, ◌*◌, ◌/◌, ◌%◌, ◌^◌, ◌<◌, ◌≤◌, ℤ, pos, negsuc, neg_ℤ, nat_abs, sym, refl, ap, ◌∙◌, le_of_lt, div-le_self, arith, le-leb}
+use native.Mathlib.Nat.{mod-le, mod-zero, div-zero, zero-div}
+use lib.Signed.{quot_z, rem_z, mag}
 use borrow.Author.Tests.{lt-leb}
 use Rattle.std.specs.Int.{w32, cast_signed, cast_unsigned}
+use Rattle.std.proofs.lemmas.Int.{ints}
 use Rattle.words.specs.Numbers.{truncate, signed, word_of}
 use Rattle.sums.specs.Sums.{difference}
 use Rattle.quotients.specs.Quotients.{signed_quotient, signed_remainder}
@@ -50,6 +51,20 @@ remainder_by_zero x h =
     by_sign (λ z. word_of z ≡ x → x ≡ word_of (rem_z z (signed 32 0))) x h
     (λ l e. rw (signed_low 0 (omega arith), mod-zero) (sym e)) (λ l e. rw (signed_low 0 (omega arith), mod-zero) (sym e))
     (word_signed x h)
+
+-- the dividend 0
+pub quotient_of_zero : (y : ℕ) → y < 2 ^ 32 → signed_quotient 0 y ≡ 0
+unfolding signed_quotient word_of
+quotient_of_zero y h =
+    by_sign (λ z. word_of (quot_z (signed 32 0) z) ≡ 0) y h
+    (λ l. rw (signed_low 0 (omega arith), zero-div) refl) (λ l. rw (signed_low 0 (omega arith), zero-div) refl)
+
+-- the factor 1 of an i32
+pub times_one : (r : ℕ) (z : ℤ) → mag z < 2 ^ 31
+    → r ≡ cast_unsigned w32 (cast_signed w32 (cast_unsigned w32 z * 1 % 2 ^ 32)) → r ≡ cast_unsigned w32 (cast_signed w32 (cast_unsigned w32 z))
+times_one r z h e =
+    let same : cast_unsigned w32 z * 1 % 2 ^ 32 ≡ cast_unsigned w32 z = omega (arith, ints) in
+    e ∙ ap (λ (n : ℕ). cast_unsigned w32 (cast_signed w32 n)) same
 
 -- ---- by the magnitudes of the operands
 
