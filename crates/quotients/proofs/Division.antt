@@ -110,9 +110,12 @@ module _ (x y : ℕ) (hx : x < 2 ^ 32) (hy : y < 2 ^ 32) where
       let q : ℕ = quotient in
       by_signs (λ u v. nat_abs u / nat_abs v ≡ q → word_of (quot_z u v) ≡ with_sign x (with_sign y q)) x y hx hy
       (λ lx ly e. ap (λ (n : ℕ). word_of (pos n)) e ∙ word_pos q quotient_fits ∙ sym (plus x _ lx ∙ plus y q ly))
-      (λ lx ly e. ap (λ (n : ℕ). word_of (neg_ℤ (pos n))) e ∙ word_negated q (le_of_lt quotient_fits) ∙ sym (plus x _ lx ∙ minus y q ly))
-      (λ lx ly e. ap (λ (n : ℕ). word_of (neg_ℤ (pos n))) e ∙ word_negated q (le_of_lt quotient_fits) ∙ sym (minus x _ lx ∙ ap (difference 0) (plus y q ly)))
-      (λ lx ly e. ap (λ (n : ℕ). word_of (pos n)) e ∙ word_pos q quotient_fits ∙ sym (minus x _ lx ∙ ap (difference 0) (minus y q ly) ∙ twice q quotient_fits))
+      (λ lx ly e. ap (λ (n : ℕ). word_of (neg_ℤ (pos n))) e ∙ word_negated q (le_of_lt quotient_fits)
+      ∙ sym (plus x _ lx ∙ minus y q ly))
+      (λ lx ly e. ap (λ (n : ℕ). word_of (neg_ℤ (pos n))) e ∙ word_negated q (le_of_lt quotient_fits)
+      ∙ sym (minus x _ lx ∙ ap (difference 0) (plus y q ly)))
+      (λ lx ly e. ap (λ (n : ℕ). word_of (pos n)) e ∙ word_pos q quotient_fits
+      ∙ sym (minus x _ lx ∙ ap (difference 0) (minus y q ly) ∙ twice q quotient_fits))
       refl
 
   -- the remainder of the magnitudes, negative where the dividend is
