@@ -2,7 +2,7 @@
 use mathlib.Core.Path.{◌≡◌, ap, sym, ◌∙◌}
 use mathlib.Core.List.{List, ◌++◌, append-nil}
 use Prim.Native.Nat.{ℕ, suc, ◌+◌, ◌*◌, ◌-◌, ◌≤◌, ◌<◌}
-use native.Mathlib.Nat.{suc-mul}
+use native.Mathlib.Nat.{suc-mul, mul-le-mul_right}
 use native.Mathlib.Numerals.{add-one}
 use native.Mathlib.Omega.{arith}
 use lib.ListN.{length, get_or, set, take, drop, drop_of_length-le}
@@ -10,6 +10,13 @@ use lib.Seq.{take_all, drop-cons, take-suc-set, append_snoc}
 use Rattle.words.proofs.Counts.{left}
 use Rattle.endian.specs.BigEndian.{read_at, write_at}
 use Rattle.arrays.specs.Numbers.{words_at, words_put}
+
+-- each of n places lies in the slice, where the last does
+pub in_slice : (n stride at i size : ℕ) → at + n * stride + 4 ≤ size + stride → i < n → at + i * stride + 4 ≤ size
+in_slice n stride at i size h k =
+    let next : suc i * stride ≡ i * stride + stride = suc-mul i stride in
+    let upto : suc i * stride ≤ n * stride = mul-le-mul_right stride k in
+    omega arith
 
 -- the next place
 next_place : (at stride i : ℕ) → at + i * stride + stride ≡ at + (i + 1) * stride

@@ -138,12 +138,31 @@ unfolding write_at
 write_none zero s at v h = refl
 write_none (suc i) s at v h = absurd (omega arith)
 
--- ---- a word, byte by byte
+-- ---- the three widths of the processor, byte by byte
+
+pub byte_fits : (b : ℕ) → b < 256 → b < 4294967296
+byte_fits b h = omega arith
+
+pub byte_read : (s : List ℕ) (at : ℕ) → read_at 1 s at ≡ get_or s at 0
+unfolding read_at
+byte_read s at = rw add-zero (omega arith)
+
+pub half_read : (s : List ℕ) (at : ℕ) → read_at 2 s at ≡ get_or s at 0 * 256 + get_or s (at + 1) 0
+unfolding read_at
+half_read s at = rw add-zero (omega arith)
 
 pub word_read : (s : List ℕ) (at : ℕ)
     → read_at 4 s at ≡ get_or s at 0 * 16777216 + get_or s (at + 1) 0 * 65536 + get_or s (at + 2) 0 * 256 + get_or s (at + 3) 0
 unfolding read_at
 word_read s at = rw add-zero (omega arith)
+
+pub byte_write : (s : List ℕ) (at v : ℕ) → write_at 1 s at v ≡ set s at (v % 256)
+unfolding write_at
+byte_write s at v = rw add-zero
+
+pub half_write : (s : List ℕ) (at v : ℕ) → write_at 2 s at v ≡ set (set s (at + 1) (v % 256)) at (v / 256 % 256)
+unfolding write_at
+half_write s at v = rw add-zero
 
 pub word_write : (s : List ℕ) (at v : ℕ)
     → write_at 4 s at v

@@ -1,2 +1,3 @@
 -- The definitions of `quotients`.
 pub mod Quotients
+pub mod Code

@@ -1,6 +1,6 @@
 -- The signed and the unsigned product have the same low 32 bits (manual, 3.3.5 to 3.3.8).
-use Rattle.std.proofs.Common.{◌≡◌, ℕ, zero, suc, ◌+◌, ◌-◌, ◌*◌, ◌%◌, ◌^◌, ◌<◌, ℤ, pos, ◌*ℤ◌, neg_ℤ, sym, refl, ◌∙◌, mod-eq_of_lt, add-mul, mul-add, arith}
-use native.Mathlib.Nat.{mul-mod_left, mul-mod_right}
+use Rattle.std.proofs.Common.{◌≡◌, ℕ, zero, suc, ◌+◌, ◌-◌, ◌*◌, ◌%◌, ◌^◌, ◌<◌, ℤ, pos, ◌*ℤ◌, neg_ℤ, sym, refl, ◌∙◌, lt_of_le_of_lt, mod-eq_of_lt, add-mul, mul-le-mul, mul-add, arith}
+use native.Mathlib.Nat.{mul-mod_left, mul-mod_right, le-pred_of_lt}
 use Rattle.words.specs.Numbers.{truncate, word_of}
 use Rattle.sums.specs.Sums.{signed_product, unsigned_product}
 use Rattle.words.proofs.Integers.{by_signs, word_lt}
@@ -35,3 +35,7 @@ products_agree x y hx hy =
     (λ lx ly. sym (kept (neg_ℤ (pos (x * b)))) ∙ unique _ (x * b) (x * y) (opposite (x * b)) (right x y b (omega arith)))
     (λ lx ly. sym (kept (neg_ℤ (pos (a * y)))) ∙ unique _ (a * y) (x * y) (opposite (a * y)) (left x a y (omega arith)))
     (λ lx ly. unique (a * b) (a * y) (x * y) (right a b y (omega arith)) (left x a y (omega arith)))
+
+-- the whole product fits 64 bits
+pub product_fits : (x y : ℕ) → x < 2 ^ 32 → y < 2 ^ 32 → x * y < 2 ^ 64
+product_fits x y hx hy = lt_of_le_of_lt (mul-le-mul (le-pred_of_lt hx) (le-pred_of_lt hy)) (omega arith)

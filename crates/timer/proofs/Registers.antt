@@ -1,9 +1,13 @@
 -- A timer that holds words: its registers read as words, and stores and ticks keep it so; they keep a fit one fit, too.
-use Prim.Native.Nat.{ℕ, ◌^◌, ◌≤◌, ◌<◌}
+use mathlib.Core.Path.{◌≡◌}
+use mathlib.Core.Bool.{◌&&◌}
+use Prim.Native.Nat.{ℕ, ◌/◌, ◌%◌, ◌^◌, ◌≤◌, ◌<◌}
 use native.Mathlib.Omega.{arith}
 use lib.Dec.{leb, eqb}
+use borrow.Author.Tests.{ne_eqb}
 use Rattle.words.proofs.Cases.{case}
-use Rattle.timer.specs.Timer.{register_read, register_written, ticked, TimerWords}
+use Rattle.words.proofs.Conjunction.{two}
+use Rattle.timer.specs.Timer.{timer, raised, register_read, register_written, ticked, TimerWords}
 use Rattle.timer.specs.declared.Timer.{Timer}
 
 pub read_word : (t : Timer) → TimerWords t → (at : ℕ) → register_read t at < 2 ^ 32
@@ -38,3 +42,13 @@ ticked_fits t h =
     case (λ (u : Timer). u.control ≤ 3) (eqb t.divisor 0)
     (λ _. h)
     (λ _. case (λ (u : Timer). u.control ≤ 3) (leb t.counter 1) (λ _. omega (arith, h)) (λ _. h))
+
+-- ---- as the code has them
+
+pub raised_as_tested : (t : Timer) → (eqb (t.control % 2) 1 && eqb (t.control / 2 % 2) 1) ≡ raised t
+unfolding raised
+raised_as_tested t = two (eqb (t.control % 2) 1) (eqb (t.control / 2 % 2) 1)
+
+pub to_divisor : (t : Timer) (at v : ℕ) → (at ≡ 0 → ⊥) → v < 2 ^ 32 → timer v v t.control ≡ register_written t at v
+unfolding register_written
+to_divisor t at v n h = let same : v % 2 ^ 32 ≡ v = omega arith in simp (ne_eqb at 0 n, same)

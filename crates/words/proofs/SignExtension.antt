@@ -81,7 +81,7 @@ reads_set h l hl hh =
     signed_high (h + l + (4294967296 - 2 * h)) (omega arith) (omega arith) ∙ ap negsuc less ∙ sym (sub_neg l h hl)
 
 -- 2 ^ w is added modulo 2 ^ (w + 1), and taken off modulo 2 ^ 32
-sign_extends : (w n r : ℕ) → w < 32 → r < 2 ^ 32 → (r + 2 ^ w) % 2 ^ 32 ≡ (n % 2 ^ suc w + 2 ^ w) % 2 ^ suc w
+pub sign_extends : (w n r : ℕ) → w < 32 → r < 2 ^ 32 → (r + 2 ^ w) % 2 ^ 32 ≡ (n % 2 ^ suc w + 2 ^ w) % 2 ^ suc w
     → r ≡ sign_extend (suc w) n
 sign_extends w n r hw hr e =
     by_top
