@@ -36,7 +36,6 @@ module _ (s : Surroundings) (o : Operands) {kind k a : ℕ} {action : Action} wh
       lands extend (field_y o.word) o.next width s a (address_of o) r h brought at
       ∙ row ∙ ap (λ (n : ℕ). get_or transfers n (simple illegal) s o) (sym is)
 
-
 module _ (s : Surroundings) (o : Operands) where
   row : (j : ℕ) → j < 3 → store_to (stored_bytes (5 + j)) s o.y (address_of o) ≡ get_or transfers (5 + j) (simple illegal) s o
   unfolding stored_bytes transfers
