@@ -10,7 +10,7 @@ use lib.ListN.{length, take, drop, length-drop}
 use lib.Seq.{length-take-le}
 use borrow.Author.Tests.{eq-eqb, ne_eqb, ltb-true, eqb-true}
 use Rattle.std.specs.Prelude.{Result, Ok, Err}
-use Rattle.std.specs.Result.{result_unwrap_or}
+use Rattle.std.specs.Result.{result_unwrap_or, result_and}
 use Rattle.words.specs.Logic.{both, Exactly}
 use Rattle.processor.specs.declared.Processor.{Processor}
 use Rattle.translation.specs.Translation.{Translation, Physical}
@@ -18,6 +18,7 @@ use Rattle.translation.proofs.Resolved.{walk}
 use Rattle.translation.proofs.Slots.{slot_below}
 use Rattle.refusals.specs.Refusal.{ram_accepted, pages_up_to}
 use Rattle.refusals.specs.declared.Refusal.{Refusal}
+use Rattle.refusals.specs.Code.{answer_number}
 use Rattle.refusals.proofs.FirstFailed.{all_pass}
 use Rattle.words.specs.Lists.{Every}
 use Rattle.words.proofs.Conjunction.{both_true}
@@ -26,8 +27,8 @@ use Rattle.translation.specs.Translation.{physical_of, translation_slot}
 use Rattle.page_view.specs.View.{kernel_mode, looked_up, in_ram, has_frame, view_tests, view_refusal, viewed, view_of}
 use Rattle.page_view.specs.Part.{view_part, part_ptr}
 use Rattle.page_view.specs.declared.Frame.{Frame}
-use Rattle.page_view.specs.Code.{viewed_as}
-use Rattle.page_view.proofs.Answers.{the_refusal, the_offset, the_size}
+use Rattle.page_view.specs.Code.{viewed_as, slot_of}
+use Rattle.page_view.proofs.Answers.{the_refusal, the_slot, the_offset, the_size}
 use Rattle.page_view.proofs.Lookup.{frame_start}
 
 -- ---- what the tests tell
@@ -168,3 +169,23 @@ module _ (ram : List ℕ) (p : Processor) (page other : ℕ) (f : Frame) (e : vi
 
     pub either_part : other ≡ page → take (g.offset + g.length - g.offset) (drop g.offset ram) ≡ view_part ram p page
     either_part same = ap (λ (g : Frame). take (g.offset + g.length - g.offset) (drop g.offset ram)) made ∙ one_part r h same
+
+-- ---- the number and the slot of a frame, where another answer may refuse it
+
+module _ (ram : List ℕ) (p : Processor) (page other : ℕ) (f : Frame) (e : viewed_as (Ok f) ≡ view_of ram p page)
+    (r : Result Frame Refusal) (h : viewed_as r ≡ view_of ram p other) where
+  number_of : (r : Result Frame Refusal) → viewed_as r ≡ view_of ram p other → answer_number (result_and r (Ok f.slot)) ≡ view_refusal ram p other
+  number_of (Ok g) h = the_refusal ram p other h
+  number_of (Err x) h = the_refusal ram p other h
+
+  slot_told : (r : Result Frame Refusal) → viewed_as r ≡ view_of ram p other → other ≡ page
+      → slot_of (result_and r (Ok f.slot)) ≡ (view_of ram p page).slot
+  slot_told (Ok g) h same = the_slot ram p page e
+  slot_told (Err x) h same = the_slot ram p other h ∙ ap (λ (n : ℕ). (view_of ram p n).slot) same
+
+  module _ (k : Result ℕ Refusal) (made : k ≡ result_and r (Ok f.slot)) (same : other ≡ page) where
+    pub either_number : answer_number k ≡ view_refusal ram p page
+    either_number = ap answer_number made ∙ number_of r h ∙ ap (view_refusal ram p) same
+
+    pub either_slot : slot_of k ≡ (view_of ram p page).slot
+    either_slot = ap slot_of made ∙ slot_told r h same
