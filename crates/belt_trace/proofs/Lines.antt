@@ -20,13 +20,15 @@ use Rattle.belt_trace.specs.Trace.{lines_from, at_start, belt_text, answer_of}
 -- what holds after n steps of the trace: of the text at its start, the machine, and the text so far
 pub record Tracing (rom s : List ℕ) (m : Machine) (t : List ℕ) (n : ℕ) : Type 0 where
   pub kept : length t ≡ length s
+  pub ram : length m.memory.ram ≡ 4096
+  pub belt : length m.memory.belt ≡ 1024
   pub lines : belt_text rom ≡ take (n * 14) t ++ lines_from (4 - n) (n + 1) m
   pub rest : drop (n * 14) t ≡ drop (n * 14) s
 
 pub started : (rom s : List ℕ) {st : State} → st ≡ state at_reset timer_at_reset
     → Tracing rom s (machine_of st (replicate 4096 0) rom (replicate 1024 0)) s 0
 unfolding belt_text at_start
-started rom s e = record { kept = refl; lines = rw e; rest = refl }
+started rom s e = record { kept = refl; ram = refl; belt = refl; lines = rw e; rest = refl }
 
 module _ {rom s : List ℕ} {m : Machine} {t : List ℕ} {n : ℕ} (so : Tracing rom s m t n) where
   -- the text of a step more
@@ -44,13 +46,16 @@ module _ {rom s : List ℕ} {m : Machine} {t : List ℕ} {n : ℕ} (so : Tracing
         let next : n * 14 + 14 ≡ (n + 1) * 14 = omega arith in
         f ∙ rw (line, next)
 
-    pub more : length u ≡ length t → Tracing rom s after u (n + 1)
+    pub more : length u ≡ length t → length after.memory.ram ≡ length m.memory.ram → length after.memory.belt ≡ length m.memory.belt
+        → Tracing rom s after u (n + 1)
     unfolding lines_from
-    more k =
+    more k ram belt =
         let left : 4 - n ≡ suc (4 - (n + 1)) = omega arith in
         let next : (n + 1) * 14 ≡ n * 14 + 14 = omega arith in
         record {
           kept = k ∙ so.kept;
+          ram = ram ∙ so.ram;
+          belt = belt ∙ so.belt;
           lines = so.lines ∙ rw (left, whole, take_at _ _ _ head, e) (sym (append_assoc (take (n * 14) t) _ _));
           rest = rw (whole, drop_at _ _ _ head, next, ← drop-drop 14 (n * 14) t, so.rest) (drop-drop 14 (n * 14) s);
         }

@@ -1,2 +1,3 @@
--- The law of `machines`.
+-- The laws of `machines`.
 pub mod Equal
+pub mod Left

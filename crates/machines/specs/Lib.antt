@@ -1,2 +1,2 @@
 -- The definitions of `machines`.
-pub mod Code
+pub mod Unchanged

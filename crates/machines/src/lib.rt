@@ -2,19 +2,24 @@
 #![tactic(auto)]
 
 ghost use Rattle.std.specs.Prelude.{◌≡◌};
-ghost use Rattle.words.specs.Logic.{both};
 ghost use Rattle.byte_slices.specs.Same.{same};
+ghost use Rattle.timer.specs.Timer.{timer_at_reset};
+ghost use Rattle.processor.specs.State.{at_reset};
 ghost use Rattle.machine.specs.Machine.{machine_of};
 ghost use Rattle.refusals.specs.Code.{answer_number, asked};
-ghost use Rattle.run_loop.specs.Run.{run_of};
+ghost use Rattle.run_loop.specs.Run.{answer, run_of};
 ghost use Rattle.run_loop.specs.Code.{answer_of};
 ghost use Rattle.record.specs.Calls.{read_refusal, processor_read, timer_read, write_refusal, buffer_after};
 ghost use Rattle.record.specs.Code.{handed};
-ghost use Rattle.machines.specs.Code.{reset_state};
+ghost use Rattle.machines.specs.Unchanged.{same_state, same_machine};
 
 use machine::State;
+use processor::Processor;
 use refusals::{Refusal, Request};
 use run_loop::Ran;
+
+// No access was made, or it faulted.
+const NO_SLOT: u32 = 33;
 
 // What a run answers, the state after it, which is the one before it where the run is refused, and whether the machine is unchanged.
 #[derive(Clone, Copy, Debug, PartialEq, Eq)]
@@ -22,6 +27,18 @@ pub struct Outcome {
     pub answer: Result<Ran, Refusal>,
     pub state: State,
     pub unchanged: bool,
+}
+
+impl Outcome {
+    // What a run answers as numbers: its refusal or 0, its steps, EID, slot and charge. A refused run makes no step.
+    pub fn numbers(self) -> (u32, u32, u32, u32, u64)
+        ensures { answer result.0 result.1 result.2 result.3 result.4 ≡ answer_of self.answer }
+    {
+        match self.answer {
+            Ok(ran) => (0, ran.steps, ran.eid, ran.slot, ran.charge),
+            Err(refusal) => (refusal.into(), 0, Processor::NO_EXCEPTION, NO_SLOT, 0),
+        }
+    }
 }
 
 // What reading a record answers; whether the state is the given one, and whether it is that of reset, as after a refusal.
@@ -39,6 +56,13 @@ pub struct Written {
     pub unchanged: bool,
 }
 
+// `==`, by the test of the definitions.
+fn alike(a: State, b: State) -> bool
+    ensures { result ≡ same_state a.processor a.timer b.processor b.timer }
+{
+    a == b
+}
+
 // A run. The copies are what RAM and belt are compared with after it; RAM, ROM and belt are parameters as of `run_loop::advance`.
 pub fn run(
     state: State,
@@ -52,7 +76,8 @@ pub fn run(
     ensures answer { answer_of result.answer ≡ (run_of (asked request.entry) (machine_of state ram.old rom.now belt.old)).answer }
     ensures machine { machine_of result.state ram.new rom.now belt.new ≡ (run_of (asked request.entry) (machine_of state ram.old rom.now belt.old)).machine }
     ensures unchanged { result.unchanged
-        ≡ both (⟦<State as PartialEq>⟧.eq state result.state) (both (same ramcopy.now ram.new) (same beltcopy.now belt.new)) }
+        ≡ same_machine state.processor state.timer ramcopy.now beltcopy.now
+        (run_of (asked request.entry) (machine_of state ram.old rom.now belt.old)).machine }
 {
     let answer = runs::run(state, ram, rom, belt, request);
     let after = match answer {
@@ -63,7 +88,7 @@ pub fn run(
     Outcome {
         answer,
         state: after,
-        unchanged: (state == after) & memory,
+        unchanged: alike(state, after) & memory,
     }
 }
 
@@ -71,15 +96,15 @@ pub fn read(bytes: &[u8], state: State) -> Handed
     ensures answer { answer_number result.answer ≡ read_refusal bytes.now }
     ensures processor { (handed result.answer).processor ≡ processor_read bytes.now }
     ensures timer { (handed result.answer).timer ≡ timer_read bytes.now }
-    ensures given { result.given ≡ ⟦<State as PartialEq>⟧.eq state (handed result.answer) }
-    ensures reset { result.reset ≡ ⟦<State as PartialEq>⟧.eq reset_state (handed result.answer) }
+    ensures given { result.given ≡ same_state state.processor state.timer (processor_read bytes.now) (timer_read bytes.now) }
+    ensures reset { result.reset ≡ same_state at_reset timer_at_reset (processor_read bytes.now) (timer_read bytes.now) }
 {
     let answer = record::read(bytes);
-    let held = answer.unwrap_or(State::reset());
+    let held = record::read_or_reset(bytes);
     Handed {
         answer,
-        given: state == held,
-        reset: State::reset() == held,
+        given: alike(state, held),
+        reset: alike(State::reset(), held),
     }
 }
 

@@ -2,4 +2,3 @@
 pub mod StepLaws
 pub mod CommandLaws
 pub mod Mismatches
-pub mod StartLaws

@@ -30,7 +30,7 @@ pub fn start(
     byte_slices::copy(rom, expectation.rom);
     byte_slices::copy(belt, expectation.belt);
     let reading = record::read(expectation.record);
-    progress.state = reading.unwrap_or(State::reset());
+    progress.state = record::read_or_reset(expectation.record);
     progress.counts.judge(false, reading.is_ok());
 }
 

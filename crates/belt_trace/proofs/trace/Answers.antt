@@ -17,8 +17,9 @@ loop-line-init c = started _ _ c.reset-state.ensures
 
 pub loop-line-preserved : goal.loop-line-preserved
 loop-line-preserved c =
+    let kept = c.advance.auto in
     more c.loop-line.invariant c.if-text-lt56.false c.loop-line-test.true (machine_of_step _ c.advance.ensures.state) c.advance.ensures.text
-    c.advance.auto.text
+    kept.text kept.ram kept.belt
 
 pub returns : goal.returns
 returns c =
