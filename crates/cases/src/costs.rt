@@ -1,6 +1,7 @@
 // Charged runs: what they cost, and which lists of charges are refused (document 02, job 3).
-use crate::outcomes::{COUNT, Case, KINDS, numbers};
+use crate::outcomes::{COUNT, Case, KINDS};
 use machines::Outcome;
+use runs::Answered;
 use std::io;
 
 // TRAP, and ADDI R1,R1,1 at general service; then the ROM's zeros, ADD R0,R0,R0.
@@ -16,7 +17,13 @@ fn steps_of(program: u64, wanted: u64) -> Case {
 }
 
 fn print_outcome(rt: &impl Print, outcome: Outcome) -> io::Result<()> {
-    let (refusal, steps, eid, _, charge) = numbers(outcome.answer);
+    let Answered {
+        refusal,
+        steps,
+        eid,
+        charge,
+        ..
+    } = outcome.answered;
     let state = if outcome.unchanged {
         "unchanged"
     } else {

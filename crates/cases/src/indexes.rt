@@ -1,8 +1,9 @@
 // Runs from a replacement index: it moves once in every step made, and TBWR writes where it was before (document 02, job 4).
-use crate::outcomes::{COUNT, Case, KINDS, numbers};
+use crate::outcomes::{COUNT, Case, KINDS};
 use machine::State;
 use machines::Outcome;
 use processor::Processor;
+use runs::Answered;
 use std::io;
 use timer::Timer;
 
@@ -40,12 +41,18 @@ const WRITES: [(&str, u64, u64); 5] = [
 const BLANK: u32 = 0xC000_0000;
 
 fn print_outcome(rt: &impl Print, outcome: Outcome) -> io::Result<()> {
-    let (refusal, steps, eid, _, _) = numbers(outcome.answer);
+    let Answered {
+        state,
+        refusal,
+        steps,
+        eid,
+        ..
+    } = outcome.answered;
     let Processor {
         replacement,
         tlbhigh,
         ..
-    } = outcome.state.processor;
+    } = state.processor;
     print!(rt; ": refusal {refusal}, {steps} steps, EID {eid}, replacement index {replacement}")?;
     for (i, high) in tlbhigh.iter().enumerate() {
         if *high != BLANK {

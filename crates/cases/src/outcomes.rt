@@ -1,9 +1,8 @@
 // A run from a machine in memory of given lengths, and what came of it.
 use machine::State;
 use machines::Outcome;
-use processor::Processor;
-use refusals::{Kind, Refusal, Request};
-use run_loop::Ran;
+use refusals::{Kind, Request};
+use runs::Answered;
 use std::io;
 
 // What RAM and belt hold before each run, and the buffer of a record before it is written.
@@ -11,9 +10,6 @@ pub const FILL: u8 = 0x5A;
 
 // A program of two words, ADDI R1,R1,1 and J by -2: R1 counts the turns.
 pub const COUNT: u64 = 0x0421_0001_ABFF_FFFE;
-
-// No access was made, or it faulted.
-const NO_SLOT: u32 = 33;
 
 // The kinds of a run and their names.
 pub const KINDS: [(Kind, &str); 2] = [
@@ -66,18 +62,17 @@ impl Case {
     }
 }
 
-// What a run answers as numbers: its refusal or 0, its steps, EID, slot and charge. A refused run makes no step.
-pub fn numbers(answer: Result<Ran, Refusal>) -> (u32, u32, u32, u32, u64) {
-    match answer {
-        Ok(ran) => (0, ran.steps, ran.eid, ran.slot, ran.charge),
-        Err(refusal) => (refusal.into(), 0, Processor::NO_EXCEPTION, NO_SLOT, 0),
-    }
-}
-
 // The rest of a case's line, after its name.
 pub fn print_outcome(rt: &impl Print, outcome: Outcome) -> io::Result<()> {
-    let (refusal, steps, eid, slot, _) = numbers(outcome.answer);
-    let register = outcome.state.processor.registers[1];
+    let Answered {
+        state,
+        refusal,
+        steps,
+        eid,
+        slot,
+        ..
+    } = outcome.answered;
+    let register = state.processor.registers[1];
     print!(rt; ": refusal {refusal}, {steps} steps, EID {eid}, slot {slot}")?;
     if outcome.unchanged {
         println!(rt; ", unchanged")

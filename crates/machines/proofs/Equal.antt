@@ -67,7 +67,8 @@ same_machine_equal p t ram belt m e =
 abbrev pub processors : Processor → Processor → Bool
 processors p q =
     pointwise eqb p.registers q.registers && (eqb p.pc q.pc && (eqb p.psw q.psw && (eqb p.index q.index && (eqb p.entryhigh q.entryhigh
-    && (eqb p.entrylow q.entrylow && (eqb p.badaddress q.badaddress && (pointwise eqb p.tlbhigh q.tlbhigh && (pointwise eqb p.tlblow q.tlblow && eqb p.replacement q.replacement))))))))
+    && (eqb p.entrylow q.entrylow && (eqb p.badaddress q.badaddress && (pointwise eqb p.tlbhigh q.tlbhigh
+    && (pointwise eqb p.tlblow q.tlblow && eqb p.replacement q.replacement))))))))
 
 abbrev pub timers : Timer → Timer → Bool
 timers t u = eqb t.divisor u.divisor && (eqb t.counter u.counter && eqb t.control u.control)
@@ -93,7 +94,8 @@ processors_tested : (p q : Processor) → processors p q ≡ same_processor p q
 unfolding same_processor same_special same_tlb
 processors_tested p q =
     (λ i. same_pointwise p.registers q.registers i && (eqb p.pc q.pc && (eqb p.psw q.psw && (eqb p.index q.index && (eqb p.entryhigh q.entryhigh
-    && (eqb p.entrylow q.entrylow && (eqb p.badaddress q.badaddress && (same_pointwise p.tlbhigh q.tlbhigh i && (same_pointwise p.tlblow q.tlblow i && eqb p.replacement q.replacement)))))))))
+    && (eqb p.entrylow q.entrylow && (eqb p.badaddress q.badaddress && (same_pointwise p.tlbhigh q.tlbhigh i
+    && (same_pointwise p.tlblow q.tlblow i && eqb p.replacement q.replacement)))))))))
     ∙ grouped (same p.registers q.registers) (eqb p.pc q.pc) (eqb p.psw q.psw) (eqb p.index q.index) (eqb p.entryhigh q.entryhigh)
     (eqb p.entrylow q.entrylow) (eqb p.badaddress q.badaddress) (same p.tlbhigh q.tlbhigh) (same p.tlblow q.tlblow) (eqb p.replacement q.replacement)
 

@@ -1,3 +1,2 @@
 -- The laws of `machines`.
 pub mod Equal
-pub mod Left

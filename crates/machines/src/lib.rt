@@ -8,37 +8,19 @@ ghost use Rattle.processor.specs.State.{at_reset};
 ghost use Rattle.machine.specs.Machine.{machine_of};
 ghost use Rattle.refusals.specs.Code.{answer_number, asked};
 ghost use Rattle.run_loop.specs.Run.{answer, run_of};
-ghost use Rattle.run_loop.specs.Code.{answer_of};
 ghost use Rattle.record.specs.Calls.{read_refusal, processor_read, timer_read, write_refusal, buffer_after};
 ghost use Rattle.record.specs.Code.{handed};
 ghost use Rattle.machines.specs.Unchanged.{same_state, same_machine};
 
 use machine::State;
-use processor::Processor;
 use refusals::{Refusal, Request};
-use run_loop::Ran;
+use runs::Answered;
 
-// No access was made, or it faulted.
-const NO_SLOT: u32 = 33;
-
-// What a run answers, the state after it, which is the one before it where the run is refused, and whether the machine is unchanged.
+// What a run answers and the state after it, as numbers, and whether the machine is unchanged.
 #[derive(Clone, Copy, Debug, PartialEq, Eq)]
 pub struct Outcome {
-    pub answer: Result<Ran, Refusal>,
-    pub state: State,
+    pub answered: Answered,
     pub unchanged: bool,
-}
-
-impl Outcome {
-    // What a run answers as numbers: its refusal or 0, its steps, EID, slot and charge. A refused run makes no step.
-    pub fn numbers(self) -> (u32, u32, u32, u32, u64)
-        ensures { answer result.0 result.1 result.2 result.3 result.4 ≡ answer_of self.answer }
-    {
-        match self.answer {
-            Ok(ran) => (0, ran.steps, ran.eid, ran.slot, ran.charge),
-            Err(refusal) => (refusal.into(), 0, Processor::NO_EXCEPTION, NO_SLOT, 0),
-        }
-    }
 }
 
 // What reading a record answers; whether the state is the given one, and whether it is that of reset, as after a refusal.
@@ -73,22 +55,20 @@ pub fn run(
     ramcopy: &[u8],
     beltcopy: &[u8],
 ) -> Outcome
-    ensures answer { answer_of result.answer ≡ (run_of (asked request.entry) (machine_of state ram.old rom.now belt.old)).answer }
-    ensures machine { machine_of result.state ram.new rom.now belt.new ≡ (run_of (asked request.entry) (machine_of state ram.old rom.now belt.old)).machine }
+    ensures answer { let answered = result.answered in
+        answer answered.refusal answered.steps answered.eid answered.slot answered.charge
+        ≡ (run_of (asked request.entry) (machine_of state ram.old rom.now belt.old)).answer }
+    ensures machine { machine_of result.answered.state ram.new rom.now belt.new
+        ≡ (run_of (asked request.entry) (machine_of state ram.old rom.now belt.old)).machine }
     ensures unchanged { result.unchanged
         ≡ same_machine state.processor state.timer ramcopy.now beltcopy.now
         (run_of (asked request.entry) (machine_of state ram.old rom.now belt.old)).machine }
 {
-    let answer = runs::run(state, ram, rom, belt, request);
-    let after = match answer {
-        Ok(ran) => ran.state,
-        Err(_) => state,
-    };
+    let answered = runs::run_or_given(state, ram, rom, belt, request);
     let memory = byte_slices::same(ramcopy, &ram[..]) & byte_slices::same(beltcopy, &belt[..]);
     Outcome {
-        answer,
-        state: after,
-        unchanged: alike(state, after) & memory,
+        answered,
+        unchanged: alike(state, answered.state) & memory,
     }
 }
 
